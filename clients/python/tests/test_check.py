@@ -7,7 +7,8 @@ import tempfile
 import unittest
 
 from vectors import asked, conversations, opening_of, payloads_of
-from yoritzal import Granted, Malformed, ProofFault, is_tag, read_reply, tag
+from yoritzal import Granted, Malformed, ProofFault, is_tag, read_proof, read_reply, tag
+from yoritzal.proofs import MAX_LINES
 
 PROGRAM = os.environ.get("PROGRAM")
 TAG = 32
@@ -23,7 +24,7 @@ def found(request, payload, opening):
     try:
         reply = read_reply(payload)
         if isinstance(reply, Granted):
-            reply.proof, reply.certificates
+            read_proof(reply.proof_bytes, MAX_LINES), reply.certificates
     except Malformed:
         return "refused: reply"
     key = opening.keys[request.channel]
@@ -36,7 +37,7 @@ def found(request, payload, opening):
     if request.object not in opening.objects:
         return "refused: object"
     try:
-        reply.check(request, opening.anchors, opening.objects[request.object])
+        reply.check(request, opening.anchors, opening.objects[request.object], MAX_LINES)
     except ProofFault as fault:
         return f"refused: {fault}"
     return f"granted entry {reply.entry} lines {len(reply.proof.lines)} certificates {len(reply.certificates)}"

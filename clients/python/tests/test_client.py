@@ -318,7 +318,9 @@ class Tcp(unittest.TestCase):
         node = Node(lambda connection: None)
         with connect("127.0.0.1", node.port, SECONDS) as connection:
             client = Client(channel(), connection)
-            self.assertEqual([client.ask(5, Read()).fate for _ in range(3)], [Fate.UNKNOWN] * 3)
+            answers = [client.ask(5, Read()) for _ in range(3)]
+        self.assertEqual([each.fate for each in answers], [Fate.UNKNOWN, Fate.NOT_SENT, Fate.NOT_SENT])
+        self.assertEqual((client.failed, client.channel.numbers.last), (True, 1))
         node.end()
 
 

@@ -230,6 +230,18 @@ class Clocks(Case):
         self.assertEqual(self.read_at(now, now - 3 * day, now + 2 * day), (5, 2))
         self.assertEqual(self.read_at(now, now + 2 * day), (5, 1))
 
+    def test_a_clock_below_the_machine_s_uptime_is_held_against_it_too(self):
+        day = 86_400
+        self.assertEqual(self.read_at(10, 10 + day), (0, 2))
+        with open("/proc/uptime", encoding="ascii") as file:
+            uptime = int(float(file.read().split()[0]))
+        # What was ahead by less than the uptime was believed once.
+        self.assertEqual(self.read_at(10, 10 + day + min(600, max(5, uptime // 2))), (5, 1))
+
+    def test_the_last_day_of_the_year_9999_is_told(self):
+        run = self.run_at([253_402_300_799], ["--tell-refusals"], frame(b""))
+        self.assertTrue(run.stderr.startswith(b"taosd: 9999-12-31T23:59:59Z refused "), run.stderr)
+
     def test_a_clock_before_1970_has_failed(self):
         self.assertEqual(self.read_at(-1), (5, 0))
 

@@ -1,11 +1,13 @@
 """Connections that are made anew, pools, and the client for asyncio, against nodes that answer as a test tells them."""
 import asyncio
+import contextlib
+import itertools
 import socket
 import threading
 import unittest
 
 from test_client import SECONDS, asked, channel, frame, grant, unsealed
-from yoritzal import Fate, Pool, Read, Session, connect, open_client
+from yoritzal import AsyncSession, Client, Fate, NotGranted, Pool, Read, Session, connect, open_client
 
 
 class Server:
@@ -26,7 +28,8 @@ class Server:
             threading.Thread(target=self._serve, args=(stream, self.count - 1), daemon=True).start()
 
     def _serve(self, stream, place):
-        with stream, stream.makefile("rwb") as files:
+        # A client may be gone before it is served.
+        with contextlib.suppress(OSError), stream, stream.makefile("rwb") as files:
             self.serve(files, place)
 
     def __enter__(self):
@@ -64,12 +67,24 @@ def grants_two(files, _):
         answer(files, grant(request.number, request.channel))
 
 
+def grants_two_of_five(files, _):
+    """None lies unread at the end, at which what was written would be lost."""
+    for request in list(itertools.islice(requests_of(files), 5))[:2]:
+        answer(files, grant(request.number, request.channel))
+
+
 def puts_one_in(files, _):
     """An unsealed frame in front of the second reply."""
     for count, request in enumerate(requests_of(files)):
         if count == 1:
             answer(files, unsealed(b"\4"))
         answer(files, grant(request.number, request.channel))
+
+
+def free_port():
+    """A port of this machine at which nobody listens."""
+    with socket.create_server(("127.0.0.1", 0)) as listener:
+        return listener.getsockname()[1]
 
 
 class Sessions(unittest.TestCase):
@@ -80,12 +95,53 @@ class Sessions(unittest.TestCase):
         self.assertEqual(server.count, 2)
 
     def test_where_nobody_listens_no_number_is_used(self):
-        with socket.create_server(("127.0.0.1", 0)) as listener:
-            port = listener.getsockname()[1]
-        session = Session(channel(), lambda: connect("127.0.0.1", port, SECONDS))
+        port = free_port()
         with self.assertRaises(OSError):
-            session.ask(5, Read())
-        self.assertEqual(session.channel.numbers.last, 0)
+            connect("127.0.0.1", port, SECONDS)
+        session = Session(channel(), lambda: connect("127.0.0.1", port, SECONDS))
+        told = session.ask(5, Read())
+        self.assertEqual((told.fate, told.reply, told.request.number), (Fate.NOT_SENT, None, 0))
+        self.assertRegex(told.why, "^not sent: no connection: .*refused")
+        with self.assertRaisesRegex(NotGranted, "not sent: no connection"):
+            told.result
+        self.assertEqual((session.channel.numbers.last, session.channel.may_still_come()), (0, []))
+
+    def test_what_was_made_before_and_is_not_sent_cannot_come(self):
+        port = free_port()
+        session = Session(channel(), lambda: connect("127.0.0.1", port, SECONDS))
+        requests = [session.channel.request(5, Read()) for _ in range(3)]
+        self.assertEqual([each.number for each in session.channel.may_still_come()], [1, 2, 3])
+        told = session.send(requests[:2])
+        self.assertEqual([(each.fate, each.request) for each in told], [(Fate.NOT_SENT, each) for each in requests[:2]])
+        self.assertEqual(session.channel.may_still_come(), requests[2:])
+
+    def test_a_request_without_a_spelling_is_refused_where_nobody_listens(self):
+        port = free_port()
+        session = Session(channel(), lambda: connect("127.0.0.1", port, SECONDS))
+        with self.assertRaises(ValueError):
+            session.ask(5, Read(), [b""] * 17)
+
+    def test_what_else_a_dial_raises_comes_to_the_caller(self):
+        def dial():
+            raise KeyError("no such host in the table")
+
+        with self.assertRaises(KeyError):
+            Session(channel(), dial).ask(5, Read())
+
+    def test_what_was_not_sent_may_be_asked_again(self):
+        with Server(grants_all) as server:
+            dials = iter([free_port(), server.port])
+            with Session(channel(), lambda: connect("127.0.0.1", next(dials), SECONDS)) as session:
+                self.assertEqual([session.ask(5, Read()).fate for _ in range(3)], [Fate.NOT_SENT, Fate.DONE, Fate.DONE])
+                self.assertEqual(session.channel.numbers.last, 2)
+
+    def test_what_is_asked_over_one_that_was_closed_is_not_sent(self):
+        with Server(grants_all) as server:
+            with server.dial() as connection:
+                client = Client(channel(), connection)
+                self.assertEqual(client.ask(5, Read()).fate, Fate.DONE)
+            told = client.ask(5, Read())
+        self.assertEqual((told.fate, told.why), (Fate.NOT_SENT, "not sent: it was closed"))
 
     def test_threads_share_a_pool(self):
         with Server(grants_all) as server, Pool([channel(each) for each in (1, 2, 3)], server.dial) as pool:
@@ -97,6 +153,17 @@ class Sessions(unittest.TestCase):
                 thread.join()
         self.assertEqual(fates, [Fate.DONE] * 400)
         self.assertLessEqual(server.count, 3)
+
+    def test_a_pool_closes_each_connection_that_nobody_uses(self):
+        with Server(grants_all) as server, Pool([channel(each) for each in (1, 2, 3)], server.dial) as pool:
+            for session in pool.sessions[:2]:
+                self.assertEqual(session.ask(5, Read()).fate, Fate.DONE)
+            used = pool.idle.get()
+            self.assertEqual(used.ask(5, Read()).fate, Fate.DONE)
+            pool.close()
+            self.assertEqual([session.client is None for session in pool.sessions], [session is not used for session in pool.sessions])
+            pool.idle.put(used)
+        self.assertTrue(all(session.client is None for session in pool.sessions))
 
 
 class Tasks(unittest.TestCase):
@@ -121,7 +188,7 @@ class Tasks(unittest.TestCase):
         self.assertEqual([(each.request.number, each.fate) for each in client.late], [(2, Fate.DONE)])
 
     def test_the_end_of_the_connection_leaves_the_rest_unknown(self):
-        answers, client = self.ask_all(grants_two, 5)
+        answers, client = self.ask_all(grants_two_of_five, 5)
         self.assertEqual([each.fate for each in answers], [Fate.DONE, Fate.DONE] + [Fate.UNKNOWN] * 3)
         self.assertTrue(client.failed)
 
@@ -137,6 +204,46 @@ class Tasks(unittest.TestCase):
 
         with Server(grants_all) as server:
             self.assertEqual(asyncio.run(run(server.port)), [b"hello"] * 20)
+
+    def test_what_is_asked_over_one_that_was_closed_is_not_sent(self):
+        async def run(port):
+            async with await open_client(channel(), "127.0.0.1", port, SECONDS) as client:
+                first = await client.ask(5, Read())
+            return first, await client.ask(5, Read())
+
+        with Server(grants_all) as server:
+            first, told = asyncio.run(run(server.port))
+        self.assertEqual((first.fate, told.fate, told.request.number), (Fate.DONE, Fate.NOT_SENT, 0))
+        self.assertIn("closed", told.why)
+
+    def test_a_session_of_tasks_makes_a_connection_anew(self):
+        async def run(port):
+            ports = iter([free_port(), port, port])
+
+            async def dial():
+                return await open_client(held, "127.0.0.1", next(ports), SECONDS)
+
+            async with AsyncSession(held, dial) as session:
+                first = await asyncio.gather(*[session.ask(5, Read()) for _ in range(3)])
+                return first, [(await session.ask(5, Read())).fate for _ in range(4)]
+
+        held = channel()
+        with Server(grants_two) as server:
+            first, fates = asyncio.run(run(server.port))
+            self.assertEqual(server.count, 2)
+        self.assertEqual([each.fate for each in first], [Fate.NOT_SENT] * 3)
+        self.assertRegex(first[0].why, "^not sent: no connection: ")
+        self.assertEqual((fates, held.numbers.last), ([Fate.DONE, Fate.DONE, Fate.UNKNOWN, Fate.DONE], 4))
+
+    def test_many_tasks_share_a_connection_of_a_session(self):
+        async def run(port):
+            held = channel()
+            async with AsyncSession(held, lambda: open_client(held, "127.0.0.1", port, SECONDS)) as session:
+                return await asyncio.gather(*[session.ask(5, Read()) for _ in range(50)])
+
+        with Server(grants_all) as server:
+            self.assertEqual({each.fate for each in asyncio.run(run(server.port))}, {Fate.DONE})
+            self.assertEqual(server.count, 1)
 
 
 if __name__ == "__main__":

@@ -1,4 +1,5 @@
 """What a node tells of itself by HTTP (`--status`), and its notices as JSON, with the program that PROGRAM names."""
+import contextlib
 import http.client
 import json
 import os
@@ -10,7 +11,7 @@ import time
 import unittest
 
 from test_notices import PATIENCE, frame, reads_out
-from test_service import HERE, LANES, NODE, Case, frames_of, reads
+from test_service import HERE, LANES, NODE, Case, frames_of, reads, taken
 from vectors import key_of
 from yoritzal import Read, Request, Sweep, Withdraw, Write
 
@@ -22,6 +23,8 @@ FAMILIES = ["taosd_build_info", "taosd_uptime_seconds", "taosd_connections_total
             "taosd_clock_faults_total", "taosd_scarce_total", "taosd_full_total", "taosd_notices_left_out_total", "taosd_shard_entries",
             "taosd_object_entries"]
 BOUNDS = [100, 250, 500, 1000, 2500, 5000, 10000, 25000, 50000, 100000, 250000, 500000, 1000000, 2500000, 5000000, 10000000]
+# Less than a silent peer has, and more than a busy machine takes.
+SILENT = 4
 TOLD = "taosd_replies_total{status=\"%d\"}"
 
 
@@ -103,13 +106,45 @@ class Status(Case):
             self.assertEqual(asked(port, "/metrics", method), (405, None, ""), method)
         self.assertEqual(self.ends(node)[0], 0)
 
-    def test_who_asks_slowly_holds_up_nobody_for_long(self):
+    def test_who_asks_slowly_holds_up_nobody(self):
         node, port = self.counted()
-        with socket.create_connection(("127.0.0.1", port), PATIENCE) as slow:
-            slow.sendall(b"GET /metrics HT")
+        with contextlib.ExitStack() as streams:
+            for many in 1, 20:
+                for said in [b"GET /metrics HT", b""] * many:
+                    slow = streams.enter_context(socket.create_connection(("127.0.0.1", port), PATIENCE))
+                    slow.sendall(said)
+                began = time.monotonic()
+                self.assertEqual(asked(port, "/healthz")[0], 200)
+                self.assertLess(time.monotonic() - began, SILENT)
+            began = time.monotonic()
+            self.assertEqual(self.ends(node)[0], 0)
+            self.assertLess(time.monotonic() - began, SILENT)
+
+    def test_who_asks_a_byte_at_a_time_is_answered_and_a_silent_one_is_let_go(self):
+        node, port = self.counted()
+        with socket.create_connection(("127.0.0.1", port), PATIENCE) as silent, socket.create_connection(("127.0.0.1", port), PATIENCE) as slow:
+            began = time.monotonic()
+            for each in b"GET /healthz HTTP/1.1\r\nHost: a\r\n\r\n":
+                slow.sendall(bytes([each]))
+                time.sleep(0.02)
+            self.assertTrue(taken(slow, 15).startswith(b"HTTP/1.1 200"))
+            self.assertEqual(silent.recv(1), b"")
+            self.assertGreater(time.monotonic() - began, SILENT)
+        self.assertEqual(self.ends(node)[0], 0)
+
+    def test_a_long_body_is_refused_and_holds_up_nobody(self):
+        node, port = self.counted()
+        head = b"POST / HTTP/1.1\r\nHost: a\r\nTransfer-Encoding: chunked\r\n\r\n"
+        with socket.create_connection(("127.0.0.1", port), PATIENCE) as stream:
+            stream.sendall(head + b"1\r\nx\r\n" * 1024 + b"0\r\n\r\n")
+            self.assertTrue(taken(stream, 12).endswith(b" 405"))
+        with socket.create_connection(("127.0.0.1", port), PATIENCE) as stream:
+            # What is sent behind the refusal may be reset.
+            with contextlib.suppress(OSError):
+                stream.sendall(head + b"1\r\nx\r\n" * 200_000)
             began = time.monotonic()
             self.assertEqual(asked(port, "/healthz")[0], 200)
-            self.assertLess(time.monotonic() - began, 7)
+            self.assertLess(time.monotonic() - began, SILENT)
         self.assertEqual(self.ends(node)[0], 0)
 
     def test_scrapes_slow_a_lane_by_little(self):

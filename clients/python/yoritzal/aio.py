@@ -3,10 +3,10 @@ import asyncio
 import collections
 from dataclasses import replace
 
-from .client import Answer, taken
-from .connection import PIECE, Broken
+from .client import Answer, forget, keep_late, taken
+from .connection import PIECE, Frames
 from .fields import counted
-from .replies import MAX_REPLY, Unbelieved
+from .replies import Unbelieved
 
 # So many bytes may wait to be written before a task waits too.
 MOST_WAITING = 1 << 20
@@ -23,14 +23,16 @@ async def open_client(channel, host, port, seconds=30):
 
 
 class AsyncClient:
-    """A channel over a connection, for the tasks of one event loop. Where no byte comes in so many seconds while a reply is
-    due, the connection has `failed`, and nothing is asked over it any more."""
+    """A channel over a connection, for the tasks of one event loop. Where the reply that is due is not there as a whole in so
+    many seconds, of those behind others from when these came, the connection has failed. `failed` says why; it is closed
+    then, and what is asked over it is not sent. Of answers that come late the last are kept, as by Client."""
 
     def __init__(self, channel, reader, writer, seconds=30):
         self.channel, self.reader, self.writer, self.seconds = channel, reader, writer, seconds
         # By number what was asked and got no reply, and the futures of those whose caller waits; and these numbers, in order.
-        self.waiting, self.futures, self.due = {}, {}, collections.deque()
-        self.came, self.late, self.failed, self.listening = b"", [], False, None
+        self.waiting, self.futures, self.due = collections.OrderedDict(), {}, collections.deque()
+        # `by` is the moment by which the reply that is due has to be there.
+        self.frames, self.late, self.failed, self.listening, self.by = Frames(), [], "", None, 0
 
     async def __aenter__(self):
         return self
@@ -43,7 +45,6 @@ class AsyncClient:
         self._fail("the connection was closed")
         if self.listening:
             self.listening.cancel()
-        self.writer.close()
         try:
             await self.writer.wait_closed()
         except OSError:
@@ -52,10 +53,12 @@ class AsyncClient:
     async def ask(self, object, operation, certificates=(), quoted=None):
         """Sends one request, and gives its answer."""
         if self.failed:
-            raise Broken("the connection failed")
+            return self.channel.not_sent(self.channel.unnumbered(object, operation, certificates, quoted), self.failed)
         request = self.channel.request(object, operation, certificates, quoted)
         asked = Answer(request, sent=request.payload(self.channel.key))
         future = asyncio.get_running_loop().create_future()
+        if not self.due:
+            self._give_time()
         self.waiting[request.number], self.futures[request.number] = asked, future
         self.due.append(request.number)
         self.writer.write(counted(asked.sent, 4))
@@ -71,45 +74,44 @@ class AsyncClient:
         except OSError as fault:
             self._fail(f"the connection failed: {fault}")
 
+    def _give_time(self):
+        self.by = asyncio.get_running_loop().time() + self.seconds
+
     async def _listen(self):
         """Takes frames as long as one is due."""
         try:
             while self.due:
-                piece = await asyncio.wait_for(self.reader.read(PIECE), self.seconds)
+                left = self.by - asyncio.get_running_loop().time()
+                piece = await asyncio.wait_for(self.reader.read(PIECE), left)
                 if not piece:
                     self._fail("the connection ended")
-                    return
-                self.came = self._take_frames(self.came + piece)
+                for payload in self.frames.take(piece):
+                    self._take(payload)
+                    if self.failed:
+                        break
         except asyncio.TimeoutError:
-            self._fail(f"nothing came for {self.seconds} seconds")
+            self._fail(f"no whole answer in {self.seconds} seconds")
         except OSError as fault:
             self._fail(f"the connection failed: {fault}")
         finally:
             self.listening = None
 
-    def _take_frames(self, came):
-        """Takes the whole frames in front, and gives what is left."""
-        at = 0
-        while at + 4 <= len(came):
-            end = at + 4 + int.from_bytes(came[at : at + 4], "big")
-            if end - at - 4 > MAX_REPLY:
-                raise Broken("what came is no frame of a reply")
-            if end > len(came):
-                break
-            self._take(came[at + 4 : end])
-            at = end
-        return came[at:]
-
     def _take(self, payload):
-        """A node answers each frame by one, in their order: where this one is no reply, the request in front gets none."""
+        """A node answers each frame by one, in their order: where this one is a reply without a seal, the request in front
+        gets none."""
         try:
             answer = taken(self.channel, self.waiting, payload)
         except Unbelieved as told:
-            if self.due:
+            if not told.told:
+                self._fail(told.why)
+            elif self.due:
                 self._give(replace(self.waiting[self.due.popleft()], why=told.why))
+                self._give_time()
+                forget(self.waiting, len(self.waiting) - len(self.due) - self.channel.most_unsettled)
             return
         if answer.request.number in self.futures:
             self.due.remove(answer.request.number)
+            self._give_time()
         self._give(answer)
 
     def _give(self, answer):
@@ -117,10 +119,58 @@ class AsyncClient:
         if future and not future.done():
             future.set_result(answer)
         elif answer.reply:
-            self.late.append(answer)
+            keep_late(self.late, answer, self.channel.most_unsettled)
 
     def _fail(self, why):
-        self.failed = True
+        """Closes the connection, since it ended, or nobody knows any more where the next frame begins."""
+        self.failed = self.failed or why
+        self.writer.transport.abort()
         self.due.clear()
         for number in list(self.futures):
             self._give(replace(self.waiting[number], why=why))
+        self.waiting.clear()
+        self.frames = Frames()
+
+
+class AsyncSession:
+    """A channel at a node, over one connection at a time, for the tasks of one event loop. `dial` gives a new AsyncClient of the
+    channel, as `lambda: open_client(channel, host, port)`. As by Session one is made when it is needed, and what finds none is
+    not sent, or is sent once."""
+
+    def __init__(self, channel, dial):
+        self.channel, self.dial, self.client, self.dialling = channel, dial, None, None
+
+    async def __aenter__(self):
+        return self
+
+    async def __aexit__(self, *fault):
+        await self.close()
+
+    async def close(self):
+        """Ends the connection. The next request makes another one."""
+        client, self.client = self.client, None
+        if client:
+            await client.close()
+
+    async def ask(self, object, operation, certificates=(), quoted=None):
+        """Sends one request, and gives its answer. Where no connection can be made, it is not sent, and no number is used."""
+        try:
+            client = await self._connected()
+        except OSError as fault:
+            return self.channel.not_sent(self.channel.unnumbered(object, operation, certificates, quoted), f"no connection: {fault}")
+        return await client.ask(object, operation, certificates, quoted)
+
+    async def _connected(self):
+        """The client. Tasks that come while one is made wait for the same."""
+        if self.client and not self.client.failed:
+            return self.client
+        if self.dialling is None:
+            self.dialling = asyncio.ensure_future(self._dial())
+        return await asyncio.shield(self.dialling)
+
+    async def _dial(self):
+        try:
+            self.client = await self.dial()
+            return self.client
+        finally:
+            self.dialling = None

@@ -4,7 +4,7 @@ from dataclasses import dataclass
 
 from .certificates import read_body
 from .fields import Malformed, Reader
-from .proofs import read_proof
+from .proofs import MAX_LINES, read_proof
 from .requests import (CONTROL, MANAGE, MAX_CONTENT, MAX_ENTRIES, MAX_PRESENTED, READ, WRITE, Discard, Entry, Forget, Hold,
                        Read, SetList, Sweep, Withdraw, Write)
 from .terms import ENTRY_NODES, read_term
@@ -216,7 +216,7 @@ def _ask(fields):
 
 
 def _keep(fields):
-    kept = fields.number(8), fields.number(1), _inside(fields, 4, read_proof), _bodies(fields, MAX_CITED)
+    kept = fields.number(8), fields.number(1), _inside(fields, 4, _proof), _bodies(fields, MAX_CITED)
     kind = _one_of(fields, range(3))
     if kind == 0:
         return Keep(*kept, "kept")
@@ -224,6 +224,10 @@ def _keep(fields):
         return Keep(*kept, f"dropped not-held {fields.take(32).hex()}")
     clock, lease = fields.number(8), fields.number(8)
     return Keep(*kept, f"dropped lapsed {clock}", lease)
+
+
+def _proof(data):
+    return read_proof(data, MAX_LINES)
 
 
 def _hold(fields):

@@ -1,24 +1,38 @@
 """Proofs: lines by the rules of the calculus, over a table of principals."""
+import struct
 from dataclasses import dataclass
+from typing import NamedTuple
 
 from .fields import Reader
 from .terms import ATOMS, PAIRS, ROLE, And, As, For, Key, Name, Quoting
 
 MAX_NODES, MAX_LINES = 1296, 1762560
+# A proof of more lines is not read, unless its reader allows it: the longest takes seconds.
+MOST_LINES = 100000
 (SAME, CHAIN, LEFT, RIGHT, BOTH, QUOTE, FOR, IN_ROLE, ANCHOR, SAID, LIFT, JOIN, HAND_OFF, DELEGATE,
  ROLE_UNDER) = range(1, 16)
 # The rules whose facts say that somebody says something, and how many lines each rule names.
 STATING = {SAID, LIFT, JOIN}
 PREMISES = {CHAIN: 2, BOTH: 2, QUOTE: 2, FOR: 2, LIFT: 2, JOIN: 2, HAND_OFF: 1, DELEGATE: 1, ROLE_UNDER: 1}
 CITING = {ANCHOR, SAID}
+# A line of each rule: its byte, its fact, the lines that it names, its place among anchors or certificates.
+FORMS = {rule: struct.Struct(">B" + "H" * (2 + (rule in STATING)) + "I" * PREMISES.get(rule, 0) + "H" * (rule in CITING))
+         for rule in range(SAME, ROLE_UNDER + 1)}
 
 
 class ProofFault(ValueError):
     """A proof that does not bear a grant out."""
 
 
-@dataclass(frozen=True)
-class Node:
+class TooManyLines(ProofFault):
+    """A proof of more lines than its reader allows. Nothing is said of them."""
+
+    def __init__(self, count, most):
+        super().__init__(f"a proof of {count} lines, more than the {most} that are looked at")
+        self.count = count
+
+
+class Node(NamedTuple):
     """A principal of the table: for a key or a name its number, else the numbers of its operands. `As` has the number
     of the one in the role, and then the role."""
 
@@ -33,8 +47,7 @@ class Node:
         return self.parts[:1] if self.form is As else ()
 
 
-@dataclass(frozen=True)
-class Line:
+class Line(NamedTuple):
     """A fact and the rule that gives it: that `left` speaks for `right`, or that `who` says so. These are numbers of
     nodes. `premises` are the numbers of lines, and `cited` is the place of an anchor or a certificate."""
 
@@ -80,11 +93,14 @@ class _Table:
         return self.places.get(Node(form, (self.place(principal.left), self.place(principal.right))))
 
 
-def read_proof(data):
-    """The proof that is spelled by all these bytes."""
+def read_proof(data, most_lines=MOST_LINES):
+    """The proof that is spelled by all these bytes. One of more lines is refused by TooManyLines before they are read."""
     fields = Reader(data)
     nodes = [_read_node(fields, place) for place in range(fields.number(2, most=MAX_NODES))]
-    lines = [_read_line(fields, len(nodes)) for _ in range(fields.number(4, most=MAX_LINES))]
+    count = fields.number(4, most=MAX_LINES)
+    if count > most_lines:
+        raise TooManyLines(count, most_lines)
+    lines = [_whole_line(fields, len(nodes)) or _read_line(fields, len(nodes)) for _ in range(count)]
     if not _is_canonical(nodes, lines):
         fields.refuse("a table that is not that of the lines", 0)
     fields.end()
@@ -112,7 +128,26 @@ def _read_node(fields, place):
     return fields.refuse(f"a node of kind {kind}", at)
 
 
+def _whole_line(fields, nodes):
+    """The next line, or None where something is the matter with it."""
+    data, at = fields.data, fields.at
+    form = FORMS.get(data[at]) if at < len(data) else None
+    if form is None or at + form.size > len(data):
+        return None
+    found = form.unpack_from(data, at)
+    rule = found[0]
+    states = rule in STATING
+    who, left, right = found[1:4] if states else (None, found[1], found[2])
+    if left >= nodes or right >= nodes or (states and who >= nodes):
+        return None
+    fields.at = at + form.size
+    if rule in CITING:
+        return Line(rule, who, left, right, (), found[-1])
+    return Line(rule, who, left, right, found[3 + states :])
+
+
 def _read_line(fields, nodes):
+    """The next line, field by field, so that the byte is named that can't stand there."""
     at = fields.at
     rule = fields.number(1)
     if not SAME <= rule <= ROLE_UNDER:
@@ -129,8 +164,10 @@ def _is_canonical(nodes, lines):
     if len(set(nodes)) != len(nodes):
         return False
     seen = 0
-    for line in lines:
-        for root in (line.who, line.left, line.right):
+    for _, who, left, right, _, _ in lines:
+        if left < seen and right < seen and (who is None or who < seen):
+            continue
+        for root in (who, left, right):
             waiting = [] if root is None else [root]
             while waiting:
                 place = waiting[-1]
@@ -155,16 +192,17 @@ class _Check:
                      for each in certificates]
 
     def all_lines(self):
-        if not self.lines:
+        lines = self.lines
+        if not lines:
             raise ProofFault("a proof without lines")
-        for place, line in enumerate(self.lines):
-            earlier = all(each < place for each in line.premises)
-            if not earlier or not RULES[line.rule](self, line, *[self.lines[each] for each in line.premises]):
+        for place, line in enumerate(lines):
+            named = line.premises
+            if (named and max(named) >= place) or not RULES[line.rule](self, line, *[lines[each] for each in named]):
                 raise ProofFault(f"line {place} does not follow")
 
     def is_pair(self, place, form, *parts):
         """Whether the node is a compound of that form and of these parts."""
-        return self.nodes[place] == Node(form, parts)
+        return self.nodes[place] == (form, parts)
 
     def chain(self, line, one, other):
         return speaks(one, other) and one.right == other.left and (line.left, line.right) == (one.left, other.right)
@@ -221,17 +259,19 @@ class _Check:
         return left.parts[1] == statement.who and self.is_pair(line.right, For, *left.parts)
 
 
-def speaks(*lines):
-    return all(line.who is None for line in lines)
+def speaks(line, other=None):
+    """Whether it says that one speaks for another, and so does the other line, if there is one."""
+    return line.who is None and (other is None or other.who is None)
 
 
-def says(*lines):
-    return all(line.who is not None for line in lines)
+def says(line, other=None):
+    """Whether it says that somebody says so, and so does the other line, if there is one."""
+    return line.who is not None and (other is None or other.who is not None)
 
 
 def is_said(line, statement):
     """Whether both are about one left and one right principal."""
-    return (line.left, line.right) == (statement.left, statement.right)
+    return line.left == statement.left and line.right == statement.right
 
 
 # Each has the check, the line and the lines that it names.

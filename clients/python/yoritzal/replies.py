@@ -5,7 +5,7 @@ from dataclasses import dataclass
 
 from .certificates import read_body
 from .fields import Malformed, Reader
-from .proofs import ProofFault, read_proof
+from .proofs import MOST_LINES, ProofFault, TooManyLines, read_proof
 from .tags import TAG_BYTES, is_tag
 from .terms import ENTRY_NODES, read_term
 
@@ -30,7 +30,8 @@ class Granted(Reply):
     """The operation is done. `kept` tells whether the proof was made for an earlier request, `entry` which entry of the
     object's list has the right, shard and place where the request stands in the journals; `result` is what was read.
     The proof and the certificates that it cites are kept as they came: each is read when it is first asked for, and one
-    that spells nothing is refused by Malformed then."""
+    that spells nothing is refused by Malformed then. `proof` is refused by TooManyLines where it has more than
+    MOST_LINES: read_proof reads the `proof_bytes` of a longer one."""
 
     kept: bool
     entry: int
@@ -49,17 +50,26 @@ class Granted(Reply):
     def certificates(self):
         return tuple(map(read_body, self.certificates_bytes))
 
-    def check(self, request, anchors, entries):
+    def check(self, request, anchors, entries, most_lines=MOST_LINES):
         """Refuses the grant by ProofFault, or Malformed where it spells nothing, if its proof does not show that the one
         who asked speaks for its entry, by the anchors of the node's opening and the certificates that it cites. `entries`
-        is the object's access list. Nothing is looked up about seals and ends of the certificates: a reply has none, and
-        no clock is read."""
+        is the object's access list. A proof of more lines is refused by TooManyLines, a ProofFault, and is not looked at.
+        Nothing is looked up about seals and ends of the certificates: a reply has none, and no clock is read."""
         entry = entries[self.entry] if self.entry < len(entries) else None
         if entry is None or not entry.rights & request.operation.right:
             raise ProofFault(f"entry {self.entry} does not have the right")
-        self.proof.follows(anchors, self.certificates)
-        if not self.proof.concludes(request.subject, entry.who):
+        proof = self._proof(most_lines)
+        proof.follows(anchors, self.certificates)
+        if not proof.concludes(request.subject, entry.who):
             raise ProofFault(f"the proof is of something else than entry {self.entry}")
+
+    def _proof(self, most_lines):
+        """The proof, once it is read kept, if it has no more lines."""
+        if "proof" not in self.__dict__:
+            self.__dict__["proof"] = read_proof(self.proof_bytes, most_lines)
+        if len(self.proof.lines) > most_lines:
+            raise TooManyLines(len(self.proof.lines), most_lines)
+        return self.proof
 
 
 @dataclass(frozen=True)
@@ -271,7 +281,8 @@ def is_unsealed(payload):
 
 
 class Unbelieved(ValueError):
-    """A payload that is no reply under the channel's key. `told` is what it says, if it is a reply without a seal."""
+    """A payload that is no reply under the channel's key. `told` is what it says, if it is a reply that a node sends without
+    a seal. What is neither is junk, and no node sends it."""
 
     def __init__(self, what, told=None):
         super().__init__(what)
@@ -314,6 +325,7 @@ def _may_be(told, channel):
 
 def _told(payload):
     try:
-        return read_reply(payload)
+        reply = read_reply(payload)
     except Malformed:
         return None
+    return reply if isinstance(reply, UNSEALED + (OutOfMemory,)) else None

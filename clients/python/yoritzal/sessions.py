@@ -1,16 +1,18 @@
 """Connections that are made anew, and several of them at once."""
+import contextlib
 import queue
 import threading
 
 from .client import Client
+from .connection import unmade
 
 
 class Session:
     """A channel at a node, over one connection at a time. One thread uses it.
 
-    `dial` gives a new Connection, as `lambda: connect(host, port)`. One is made when the first request is sent, and after
-    each failure when the next one is. A request is sent once, whatever becomes of it: whether it is to be asked again its
-    caller has to know."""
+    `dial` gives a new Connection, as `lambda: connect(host, port)`, or fails by an OSError. One is made when the first
+    request is sent, and after each failure when the next one is. A request is sent once, or not at all where none can be
+    made, whatever becomes of it: whether it is to be asked again its caller has to know."""
 
     def __init__(self, channel, dial):
         self.channel, self.dial, self.client = channel, dial, None
@@ -28,22 +30,31 @@ class Session:
             client.connection.close()
 
     def ask(self, object, operation, certificates=(), quoted=None):
-        """Sends one request, and gives its answer. Where no connection can be made, what `dial` raised comes, and no
-        number is used."""
-        return self._sent(lambda client: [client.channel.request(object, operation, certificates, quoted)])[0]
+        """Sends one request, and gives its answer. Where no connection can be made, it is not sent, and no number is used."""
+        with self._connected() as client:
+            return client.ask(object, operation, certificates, quoted)
 
     def send(self, requests):
         """As Client.send."""
-        return self._sent(lambda client: requests)
+        with self._connected() as client:
+            return client.send(requests)
 
-    def _sent(self, requests_of):
+    @contextlib.contextmanager
+    def _connected(self):
+        """The client, which is let go if it fails."""
         if self.client is None:
-            self.client = Client(self.channel, self.dial())
+            self.client = Client(self.channel, self._dialled())
         try:
-            return self.client.send(requests_of(self.client))
+            yield self.client
         finally:
             if self.client.failed:
                 self.close()
+
+    def _dialled(self):
+        try:
+            return self.dial()
+        except OSError as fault:
+            return unmade(f"no connection: {fault}")
 
 
 class Pool:
@@ -64,11 +75,11 @@ class Pool:
 
     def close(self):
         """Ends the connections that nobody uses."""
-        for _ in range(len(self.sessions)):
-            try:
-                session = self.idle.get_nowait()
-            except queue.Empty:
-                return
+        idle = []
+        with contextlib.suppress(queue.Empty):
+            while True:
+                idle.append(self.idle.get_nowait())
+        for session in reversed(idle):
             session.close()
             self.idle.put(session)
 

@@ -1,13 +1,12 @@
 -- The plans that a node is opened with are those of all its shards.
-use Rattle.std.proofs.Common.{◌≡◌, ℕ, ◌+◌, ◌<◌, ◌≤◌, ◌%◌, Bool, not, List, [], ◌∷◌, ◌++◌, length, filter, map, Some, slice_get, refl, sym, ap, ap₂, ◌∙◌, subst, arith}
+use Rattle.std.proofs.Common.{◌≡◌, ℕ, ◌<◌, ◌≤◌, ◌%◌, Bool, not, List, length, filter, Some, slice_get, refl, sym, ap, ◌∙◌, subst, arith}
 use Rattle.std.specs.Prelude.{◌==◌, Contains}
 use Rattle.std.specs.List.{range_with_len}
 use Rattle.std.specs.List.Sorted.{IsStrictlyIncreasing}
 use Rattle.std.proofs.lemmas.Bool.{eq-eqb}
-use Rattle.std.proofs.lemmas.List.{map_push}
 use Rattle.std.proofs.lemmas.List.Elements.{All-map}
 use Rattle.std.proofs.lemmas.List.Filters.{length-filter_both}
-use Rattle.std.proofs.lemmas.List.FromFn.{length-map-range_with_len, get_or-map-range_with_len, map-range_with_len_more}
+use Rattle.std.proofs.lemmas.List.FromFn.{length-map-range_with_len, get_or-map-range_with_len}
 use Rattle.std.proofs.lemmas.List.Kept.{IsStrictlyIncreasing-filter}
 use Rattle.std.proofs.lemmas.Option.{slice_get_within, get_or_from_slice_get}
 use Rattle.prin_term.specs.declared.term.Anchor.{Anchor}
@@ -16,18 +15,12 @@ use Rattle.denial_link.proofs.Members.{Contains-to_filter}
 use Rattle.taos_calculus.specs.declared.decide.TheConstants.{MAX_ANCHORS}
 use Rattle.agent_core.specs.declared.limits.TheConstants.{MAX_COMMONS, MAX_JOURNAL}
 use Rattle.agent_core.specs.State.{Plan}
-use Rattle.agent_core.specs.Journals.{ShardSeen}
-use Rattle.agent_core.specs.Alone.{plans_in}
 use Rattle.agent_core.specs.Laws.{OpenedAreShards, EachChannelAtHome}
-use Rattle.agent_core.specs.Opened.{MayOpen, own_channels, plan_for, plans_for, new_shard}
-use Rattle.agent_core.specs.Plans.{IsPlan, AreShards}
+use Rattle.agent_core.specs.Opened.{MayOpen, own_channels, plan_for, plans_for}
+use Rattle.agent_core.specs.Plans.{IsPlan}
 
 filter_few : {X : Type 0} (p : X → Bool) (xs : List X) → length (filter p xs) ≤ length xs
 filter_few p xs = omega (arith, length-filter_both p (λ x. not (p x)) (λ x. refl) xs)
-
-plans_opened : (plans : List Plan) → plans_in (map new_shard plans) ≡ plans
-plans_opened [] = refl
-plans_opened (plan ∷ plans) = ap (λ (l : List Plan). plan ∷ l) (plans_opened plans)
 
 module _ (channels : List ℕ) (shards : ℕ) (anchors : List Anchor) (commons : List Certificate) (keep limit : ℕ) where
   abbrev own_plan : ℕ → Plan
@@ -64,19 +57,9 @@ module _ (channels : List ℕ) (shards : ℕ) (anchors : List Anchor) (commons :
     anchored = All-map (λ (p : Plan). p.anchors ≡ anchors) own_plan (range_with_len 0 shards) (λ k number lt. refl);
   }
 
-  pub whole_node : MayOpen channels shards anchors commons limit → (opened : List ShardSeen) → opened ≡ map new_shard plans → AreShards (plans_in opened) anchors
-  whole_node may opened are = subst (λ ps. AreShards ps anchors) (sym (ap plans_in are ∙ plans_opened plans)) (opened_are_shards may)
-
   -- the channel leaves the number of its shard
   pub each_channel_at_home : EachChannelAtHome channels shards anchors commons keep limit
   each_channel_at_home channel plan has at =
       let here : own_plan (channel % shards) ≡ plan = plan_at (channel % shards) plan (subst (λ n. slice_get plans (channel % n) ≡ Some plan) plan_count at) in
       subst (λ (p : Plan). Contains p.channels channel) here
       (Contains-to_filter (λ c. c % shards == channel % shards) channels channel has (eq-eqb (channel % shards) (channel % shards) refl))
-
-  -- one more shard was opened
-  pub opened_more : (number : ℕ) (opened later : List ShardSeen) (s : ShardSeen) → opened ≡ map new_shard (map own_plan (range_with_len 0 number)) →
-      s ≡ new_shard (own_plan number) → later ≡ opened ++ s ∷ [] → later ≡ map new_shard (map own_plan (range_with_len 0 (number + 1)))
-  opened_more number opened later s so_far is added =
-      added ∙ ap₂ (λ (l : List ShardSeen) x. l ++ x ∷ []) so_far is
-      ∙ sym (ap (map new_shard) (map-range_with_len_more own_plan 0 number number (omega arith)) ∙ map_push new_shard (map own_plan (range_with_len 0 number)) (own_plan number))

@@ -33,10 +33,9 @@ use Rattle.agent_core.specs.State.{Plan, Ask, Event, Asks, Keeps, Plain, first_m
 use Rattle.agent_core.specs.Steps.{StepAnswer, Hit, Miss, Other, IsAnswer, hit, miss, other, JournalSeen, StepsTo, StepRefused}
 use Rattle.agent_core.proofs.Apart.{cites_apart}
 use Rattle.agent_core.proofs.Asks.{anchors_are, granted_at_last, judged_by, some_own, told_other, stands_missed}
-use Rattle.agent_core.proofs.Bringing.{count_places}
+use Rattle.agent_core.proofs.AtPlaces.{count_places, slice_at}
 use Rattle.agent_core.proofs.Moments.{moment_judged}
 use Rattle.agent_core.proofs.Onward.{begins_on, granted_stays}
-use Rattle.agent_core.proofs.Opening.{slice_at}
 
 -- ---- what a Keep is told
 

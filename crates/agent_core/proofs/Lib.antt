@@ -1,22 +1,9 @@
-pub mod NamesLeft
-pub mod Among
-pub mod Searching
-pub mod Rows
-pub mod Places
-pub mod Stores
-pub mod TakingIn
+pub mod AtPlaces
 mod Withdrawing
 pub mod Journaling
 pub mod Clocks
-pub mod Channels
-pub mod Changing
-pub mod Bringing
-pub mod Judging
-pub mod Looks
 pub mod Snapshots
-pub mod Opening
 pub mod AllShards
-pub mod Stepping
 pub mod Making
 pub mod Few
 pub mod Marks
@@ -30,10 +17,4 @@ pub mod Plainly
 pub mod Onward
 pub mod Asks
 pub mod Granting
-pub mod Serving
-pub mod Firsts
-pub mod Keepable
-pub mod Keeps
-pub mod NewAsks
-pub mod OneOwner
 pub mod LinkPlaces

@@ -1,49 +1,18 @@
--- Issuers that are withdrawn: what a withdrawal does, and that nothing of theirs is held.
-use Rattle.std.proofs.Common.{◌≡◌, ⊎_elim, ℕ, ◌+◌, ◌<◌, ◌≤◌, Bool, true, false, not, ◌==◌, nat_eq, nat_le, nat_lt, List, [], ◌∷◌, ◌++◌, length, filter, get_or, bytes_eq, slice_get, Some, All, Contains, refl, sym, ◌∙◌, ap, subst, arith, length-append}
-use Rattle.std.proofs.lemmas.Bool.{cond_both, cond-true, cond-false, eqb-true, eqb-false, false≢true, le-leb, lt-leb, leb-false, not-true}
+-- Issuers that are withdrawn: nothing of theirs is held.
+use Rattle.std.proofs.Common.{◌≡◌, ⊎_elim, ℕ, ◌+◌, ◌<◌, Bool, true, false, not, ◌==◌, nat_eq, nat_le, nat_lt, List, [], ◌∷◌, ◌++◌, length, filter, get_or, bytes_eq, All, Contains, refl, sym, ◌∙◌, ap, subst, arith, length-append}
+use Rattle.std.proofs.lemmas.Bool.{cond_both, eqb-true, eqb-false, false≢true, leb-false, not-true}
 use Rattle.std.proofs.lemmas.Cmp.{nat_eq_equiv}
 use Rattle.std.proofs.lemmas.List.Elements.{All-nil, All-cons, All-head, All-tail, All-append, All-filter, All-weaker, filter_passes, Contains-append_left, Contains-push, Contains-push_cases}
 use Rattle.std.proofs.lemmas.Map.Views.{Contains-from_any, list_any-from_Contains}
 use Rattle.stmt_codec.specs.Certificates.{Certificate, digest_of}
 use Rattle.proof_cache.specs.Cached.{Cached}
-use Rattle.agent_core.specs.declared.shard.store.Store.{Store}
 use Rattle.agent_core.specs.declared.told.Told.{Told}
 use Rattle.agent_core.specs.Held.{admitted, among, is_withdrawn, newly}
 use Rattle.agent_core.specs.Journals.{Entry, entry, state_from, state_after, cache_after, told_of}
-use Rattle.agent_core.specs.Kept.{IsStore}
-use Rattle.agent_core.specs.Names.{book, certs_named, AreNames}
 use Rattle.agent_core.specs.Laws.{AreAdmitted, HoldsNoneWithdrawn, WithdrawnAreNotHeld, WithdrawnFromThen}
-use Rattle.agent_core.specs.State.{Plan, State, Ask, Event, Asks, Keeps, Holds, Discards, Forgets, Expires, Withdraws, Answer, Plain, opened, keeping, is_gone, swept, brought, taking, asking, holding, removing, forgetting, withdrawing, without_issuer, moment_of, next}
+use Rattle.agent_core.specs.State.{Plan, State, Ask, Event, Asks, Keeps, Holds, Discards, Forgets, Expires, Withdraws, Answer, Plain, opened, keeping, is_gone, swept, brought, taking, asking, holding, forgetting, withdrawing, without_issuer, moment_of, next}
 use Rattle.agent_core.proofs.Backed.{All-both}
 use Rattle.agent_core.proofs.Clocks.{state_from-append}
-
--- ---- what a withdrawal does
-
-module _ (plan : Plan) (s : State) (issuer : ℕ) where
-  pub already : is_withdrawn s.withdrawn issuer ≡ true → next plan s (Withdraws issuer) ≡ (s, Plain (Told.Removed 0))
-  already is = cond-true (is_withdrawn s.withdrawn issuer) _ _ is
-
-  pub no_room : is_withdrawn s.withdrawn issuer ≡ false → 64 ≤ length s.withdrawn → next plan s (Withdraws issuer) ≡ (s, Plain (Told.WithdrawnFull (length s.withdrawn)))
-  no_room isnt full = cond-false (is_withdrawn s.withdrawn issuer) _ _ isnt ∙ cond-true (nat_le 64 (length s.withdrawn)) _ _ (le-leb 64 (length s.withdrawn) full)
-
-  pub withdraws : is_withdrawn s.withdrawn issuer ≡ false → length s.withdrawn < 64 → next plan s (Withdraws issuer) ≡ removing plan s (without_issuer issuer s)
-  withdraws isnt room = cond-false (is_withdrawn s.withdrawn issuer) _ _ isnt ∙ cond-false (nat_le 64 (length s.withdrawn)) _ _ (lt-leb 64 (length s.withdrawn) room)
-
--- what is kept, with one issuer more
-pub store_withdrawn : (plan : Plan) (journal : List Entry) (s : State) (store after : Store) (issuer : ℕ) → IsStore (book plan journal) (keeping (λ c. not (c.issuer == issuer)) s.clock s) store →
-    after.clock ≡ store.clock → after.swept ≡ store.swept → after.commons ≡ store.commons → after.rows ≡ store.rows → after.withdrawn.items ≡ store.withdrawn.items ++ issuer ∷ [] →
-    IsStore (book plan journal) (without_issuer issuer s) after
-store_withdrawn plan journal s store after issuer is clock swept commons rows more =
-    record {
-      clock_is = clock ∙ is.clock_is;
-      commons_are = subst (λ v. certs_named (book plan journal) v.items ≡ (without_issuer issuer s).commons) (sym commons) is.commons_are;
-      commons_names = subst (λ v. AreNames (book plan journal) v.items) (sym commons) is.commons_names;
-      withdrawn_are = more ∙ ap (λ l. l ++ issuer ∷ []) is.withdrawn_are;
-      row_count = ap (λ v. length v.items) rows ∙ is.row_count;
-      rows_are = λ i row c at channel. rw (clock, swept) (is.rows_are i row c (subst (λ v. slice_get v.items i ≡ Some row) rows at) channel);
-    }
-
--- ---- nothing of theirs is held
 
 All-newly : (P : Certificate → Type 0) (held certs : List Certificate) → All P certs → All P (newly held certs)
 All-newly P held [] h = All-nil P

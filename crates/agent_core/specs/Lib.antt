@@ -6,15 +6,10 @@ pub mod Steps
 pub mod Views
 pub mod Plans
 pub mod Opened
-pub mod Names
-pub mod Kept
-pub mod Letting
-pub mod Looking
 pub mod Answers
 pub mod Shards
 pub mod Judged
 pub mod Granted
 pub mod Asked
 pub mod Settling
-pub mod Alone
 pub mod Laws

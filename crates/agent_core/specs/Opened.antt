@@ -1,16 +1,12 @@
 -- All shards of a node, as they are opened from one list of channels.
-use Rattle.std.specs.Prelude.{◌≤◌, ◌%◌, ◌==◌, ℕ, List, [], length, filter, map}
+use Rattle.std.specs.Prelude.{◌≤◌, ◌%◌, ◌==◌, ℕ, List, length, filter, map}
 use Rattle.std.specs.List.{range_with_len}
 use Rattle.std.specs.List.Sorted.{IsStrictlyIncreasing}
-use Rattle.std.specs.Arc.{arc_value}
 use Rattle.prin_term.specs.declared.term.Anchor.{Anchor}
 use Rattle.stmt_codec.specs.Certificates.{Certificate}
-use Rattle.stmt_codec.specs.View.{certificates}
 use Rattle.taos_calculus.specs.declared.decide.TheConstants.{MAX_ANCHORS}
 use Rattle.agent_core.specs.declared.limits.TheConstants.{MAX_CHANNELS, MAX_COMMONS, MAX_JOURNAL, MAX_SHARDS}
-use Rattle.agent_core.specs.declared.opened.Whole.{Whole}
 use Rattle.agent_core.specs.State.{Plan}
-use Rattle.agent_core.specs.Journals.{ShardSeen}
 
 -- what a node may be opened with
 pub record MayOpen (channels : List ℕ) (shards : ℕ) (anchors : List Anchor)
@@ -45,13 +41,3 @@ module _ (channels : List ℕ) (shards : ℕ) (anchors : List Anchor) (commons :
   -- the plans of all shards, whose numbers go from 0 on
   abbrev pub plans_for : List Plan
   plans_for = map plan_for (range_with_len 0 shards)
-
--- the plan of the shard of this number, by what all are opened with
-abbrev pub plan_by : Whole → ℕ → Plan
-plan_by whole number =
-    plan_for whole.channels.now whole.shards (arc_value whole.anchors.now).items
-    (certificates whole.commons.now) whole.keep whole.limit number
-
--- a shard with an empty journal
-abbrev pub new_shard : Plan → ShardSeen
-new_shard plan = record { plan = plan; journal = [] }

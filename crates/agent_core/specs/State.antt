@@ -102,6 +102,11 @@ swept keep moment s = keeping (λ c. not (is_gone keep moment c)) moment s
 abbrev pub moment_of : State → ℕ → ℕ
 moment_of s reading = max s.clock reading
 
+-- the Ask that an event is, if it is one
+abbrev pub ask_in : Event → Option Ask
+ask_in (Asks a) = Some a
+ask_in _ = None
+
 -- what the clock read for an event, 0 where it was not read
 abbrev pub reading_of : Event → ℕ
 reading_of (Asks a) = a.reading

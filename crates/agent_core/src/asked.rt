@@ -6,7 +6,7 @@ use std::sync::Arc;
 
 /// What a denial names. An entry is named by its place in the access list, a certificate by its
 /// digest, and a part of an entry by its place in pre-order.
-#[derive(Clone, Copy, Debug, PartialEq, Eq)]
+#[derive(Clone, Copy, PartialEq, Eq)]
 pub enum Denial {
     Expired { entry: u8, digest: [u8; 32] },
     Early { entry: u8, digest: [u8; 32] },
@@ -14,7 +14,7 @@ pub enum Denial {
     NoEntry,
 }
 
-#[derive(Debug, Drop)]
+#[derive(Drop)]
 pub enum Verdict {
     /// By this entry of the list and this proof.
     Granted { entry: u8, cached: Arc<Cached> },
@@ -28,7 +28,7 @@ pub enum Verdict {
 }
 
 /// What became of the proof of a grant.
-#[derive(Clone, Copy, Debug, PartialEq, Eq)]
+#[derive(Clone, Copy, PartialEq, Eq)]
 pub enum Settled {
     /// There was none to be kept.
     NoNeed,
@@ -40,7 +40,7 @@ pub enum Settled {
 
 /// An ask that was answered: at which place of its shard's journal, and whether by a proof that
 /// was kept before.
-#[derive(Debug, Drop)]
+#[derive(Drop)]
 pub struct Asked {
     pub place: u64,
     pub verdict: Verdict,

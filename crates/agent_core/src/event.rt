@@ -2,7 +2,7 @@
 
 ghost use Rattle.std.specs.Prelude.{◌≡◌};
 ghost use Rattle.std.specs.Option.{option_map};
-ghost use Rattle.agent_core.specs.Kept.{ask_in};
+ghost use Rattle.agent_core.specs.State.{ask_in};
 ghost use Rattle.agent_core.specs.Views.{ask_of, event_of};
 
 use crate::told::Told;
@@ -12,7 +12,7 @@ use std::sync::Arc;
 use stmt_codec::Cert;
 
 /// A channel asks for a right on an access list, and presents certificates.
-#[derive(Debug, Drop)]
+#[derive(Drop)]
 pub struct Ask {
     pub channel: u32,
     /// The request's number, which has to be above all earlier ones of its channel.
@@ -26,7 +26,7 @@ pub struct Ask {
     pub presented: Vec<Arc<Cert>>,
 }
 
-#[derive(Debug, Drop)]
+#[derive(Drop)]
 pub enum Event {
     Ask(Arc<Ask>),
     /// The proof that was made for the Ask at a place of the journal, and grants it by an entry of
@@ -64,7 +64,7 @@ pub fn ask_in(event: &Event) -> Option<&Ask>
 }
 
 /// An entry of a shard's journal.
-#[derive(Debug, Drop)]
+#[derive(Drop)]
 pub struct ShardEntry {
     pub event: Event,
     pub told: Told,

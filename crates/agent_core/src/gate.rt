@@ -6,7 +6,7 @@ pub trait Gate {
 }
 
 /// A gate at which nothing happens.
-#[derive(Clone, Copy, Debug, Default)]
+#[derive(Clone, Copy, Default)]
 pub struct FreeGate;
 
 impl Gate for FreeGate {

@@ -1,17 +1,13 @@
-//! Shards: a machine that answers events, each of which it journals.
+//! Shards: what each event makes of them, and an ask over many.
 #![tactic(auto)]
 
 mod asked;
 mod event;
 mod gate;
-mod held;
 mod laws;
 mod limit_laws;
 mod limits;
-mod lone;
-mod opened;
 mod plan;
-mod shard;
 mod shards;
 mod told;
 mod whole_ask;
@@ -30,10 +26,7 @@ pub use limit_laws::limits_are;
 pub use limits::{
     MAX_CHANNELS, MAX_COMMONS, MAX_JOURNAL, MAX_OWN, MAX_PRESENTED, MAX_SHARDS, MAX_WITHDRAWN,
 };
-pub use lone::Lone;
-pub use opened::open_shards;
 pub use plan::ShardPlan;
-pub use shard::Shard;
 pub use shards::Shards;
 pub use told::{Answer, DropCause, Snapshot, Told};
 pub use whole_ask::{Decision, ask, granting_entry, judge, proof_for};

@@ -10,7 +10,7 @@ use stmt_codec::Cert;
 use taos_calculus::MAX_ANCHORS;
 
 /// The plan of the shard `number` of so many `shards`.
-#[derive(Debug, Drop)]
+#[derive(Drop)]
 pub struct ShardPlan {
     pub number: u32,
     pub shards: u32,

@@ -9,7 +9,7 @@ use std::sync::Arc;
 use stmt_codec::Cert;
 
 /// Why a proof is not kept.
-#[derive(Clone, Copy, Debug, PartialEq, Eq)]
+#[derive(Clone, Copy, PartialEq, Eq)]
 pub enum DropCause {
     /// The first certificate that it cites and that is not held any more, by its digest.
     NotHeld { digest: [u8; 32] },
@@ -18,7 +18,7 @@ pub enum DropCause {
 }
 
 /// What a journal has of an answer.
-#[derive(Clone, Copy, Debug, PartialEq, Eq)]
+#[derive(Clone, Copy, PartialEq, Eq)]
 pub enum Told {
     /// The number is not above the channel's last one.
     Replayed { last: u64 },
@@ -43,14 +43,14 @@ pub enum Told {
 }
 
 /// What an Ask is judged by: the certificates of its channel and those in common, and its moment.
-#[derive(Debug, Drop)]
+#[derive(Drop)]
 pub struct Snapshot {
     pub moment: u64,
     pub certs: Vec<Arc<Cert>>,
 }
 
 /// What a step answers. What is told has the sense that `Told` gives it.
-#[derive(Debug, Drop)]
+#[derive(Drop)]
 pub enum Answer {
     Replayed { last: u64 },
     Full { held: u8 },
@@ -68,7 +68,7 @@ pub enum Answer {
 
 impl Told {
     /// What is told as the answer.
-    pub(crate) fn answer(self) -> Answer
+    pub fn answer(self) -> Answer
         requires { IsPlain self }
         ensures { given_by result ≡ Handed (Other self) }
     {

@@ -19,11 +19,11 @@ use Rattle.proof_cache.specs.contracts.row.Row as row
 use Rattle.agent_core.specs.contracts.event.Ask as ask
 use Rattle.agent_core.specs.contracts.event.Event as event
 use Rattle.agent_core.specs.contracts.event.ShardEntry as shard_entry
-use Rattle.agent_core.specs.contracts.held.presented.Presented as presented
+use Rattle.shard_core.specs.contracts.held.presented.Presented as presented
 use Rattle.agent_core.specs.contracts.plan.ShardPlan as plan
-use Rattle.agent_core.specs.contracts.shard.Shard as shard
+use Rattle.shard_core.specs.contracts.shard.Shard as shard
 use Rattle.agent_core.proofs.told.Told.TheSendSync as told
-use Rattle.agent_core.proofs.shard.store.Store.TheSendSync as store
+use Rattle.shard_core.proofs.shard.store.Store.TheSendSync as store
 use Rattle.object_core.specs.contracts.entry.ObjectEntry as object_entry
 use Rattle.object_core.specs.contracts.fixed.Fixed as fixed
 use Rattle.object_core.specs.contracts.object.Object as object

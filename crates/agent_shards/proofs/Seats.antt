@@ -8,13 +8,13 @@ use Rattle.std.proofs.lemmas.List.{length-map}
 use Rattle.std.proofs.lemmas.Option.{same_Some, slice_get-map, slice_get_within}
 use Rattle.agent_core.specs.declared.told.Answer.{Answer}
 use Rattle.agent_core.specs.Answers.{Stepped, SteppedTo, TakesMemory}
-use Rattle.agent_core.specs.Alone.{plans_in}
+use Rattle.shard_core.specs.Alone.{plans_in}
 use Rattle.agent_core.specs.Journals.{Entry, entry, Begins, ShardSeen, IsMeant, MayFollow, IsLegalJournal, told_at}
 use Rattle.agent_core.specs.Shards.{HasPlanAt, StepsAmong, StepsShard, shard_at}
 use Rattle.agent_core.specs.State.{Plan, Event}
 use Rattle.agent_core.specs.Steps.{JournalSeen, StepAnswer, Steps, StepsTo, StepRefused}
 use Rattle.agent_core.proofs.Journaling.{legal_more, meant_on}
-use Rattle.agent_core.proofs.OneOwner.{of_answer, from_answer}
+use Rattle.shard_core.proofs.OneOwner.{of_answer, from_answer}
 use Rattle.turn_cell.specs.declared.shares.TheConstants.{ALL_SHARES}
 use Rattle.turn_cell.specs.Journal.{AllAllowed, Grows}
 use Rattle.turn_cell.specs.Known.{Entered, IsPassOf}

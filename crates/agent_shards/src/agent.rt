@@ -1,7 +1,7 @@
 //! The shards of a node, which several seats share.
 
 ghost use Rattle.std.specs.Prelude.{◌≡◌, ◌<◌, ◌≤◌, All, IfOk, OnErr, Some, length, slice_get};
-ghost use Rattle.agent_core.specs.Alone.{plans_in};
+ghost use Rattle.shard_core.specs.Alone.{plans_in};
 ghost use Rattle.agent_core.specs.Journals.{MayFollow};
 ghost use Rattle.agent_core.specs.Plans.{AreShards, IsPlan};
 ghost use Rattle.agent_shards.specs.Cells.{AreJoined, AreSplit, HaveAll, HaveMore, shares_of};
@@ -13,8 +13,8 @@ use crate::opening::{close_shards, open_shards};
 use crate::passes::Passes;
 use crate::seated::Seated;
 use crate::whose::OfAgent;
-use agent_core::Shard;
 use prin_term::Anchor;
+use shard_core::Shard;
 use std::alloc::{AllocError, Global};
 use std::marker::{Model, PhantomData};
 use std::sync::Arc;

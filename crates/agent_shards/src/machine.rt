@@ -6,7 +6,8 @@ ghost use Rattle.agent_core.specs.Journals.{IsLegalJournal, IsMeant, MayFollow, 
 ghost use Rattle.agent_core.specs.Views.{event_of};
 
 use crate::models::{EntryModel, PlanModel};
-use agent_core::{Answer, Event, Shard};
+use agent_core::{Answer, Event};
+use shard_core::Shard;
 use std::alloc::{AllocError, Global};
 use std::marker::Model;
 use turn_cell::Journaled;

@@ -5,7 +5,7 @@ ghost use Rattle.agent_shards.specs.Cells.{AreOf, HaveAll};
 ghost use Rattle.agent_shards.specs.Shards.{AreShardsClosed, AreShardsOpened, IsShardOpened};
 
 use crate::machine::Machine;
-use agent_core::Shard;
+use shard_core::Shard;
 use std::alloc::{AllocError, Global};
 use turn_cell::{Pass, TurnCell};
 

@@ -8,10 +8,11 @@ ghost use Rattle.agent_core.specs.Views.{ask_of};
 
 use agent_core::*;
 use prin_term::{Entry, Term};
+use shard_core::*;
 use std::alloc::Global;
 use std::sync::Arc;
 use std::test::*;
-use stmt_codec::Cert;
+use stmt_codec::{Cert, CertBody};
 
 /// One shard of channel 2, whose journal takes so many entries.
 pub(crate) fn one_shard(alloc: Global, limit: u64) -> Result<Lone, Fail> {
@@ -57,4 +58,15 @@ pub(crate) fn asked(alloc: Global, seq: u64, presented: Vec<Arc<Cert>>) -> Resul
         presented,
     };
     Ok(Arc::new(alloc, made)?)
+}
+
+/// That key 1 says that key 2 speaks for name 10, with serial numbers from one on.
+pub(crate) fn hand_offs(alloc: Global, first: u64, count: u64) -> Result<Vec<Arc<Cert>>, Fail> {
+    let mut certs = Vec::new(alloc);
+    for number in 0..count {
+        let serial = first.wrapping_add(number);
+        let body = CertBody::says(1, None, Term::Key(2), Term::Name(10), 2000, serial);
+        certs.push(Arc::new(alloc, Cert::of(alloc, body)?)?)?;
+    }
+    Ok(certs)
 }

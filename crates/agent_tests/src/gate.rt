@@ -1,10 +1,10 @@
-use crate::asks::{asked, one_shard};
+use crate::asks::{asked, hand_offs, one_shard};
 use agent_core::*;
-use prin_term::Term;
+use shard_core::*;
 use std::alloc::Global;
 use std::sync::{Arc, Wait};
 use std::test::*;
-use stmt_codec::{Cert, CertBody};
+use stmt_codec::Cert;
 use taos_saturate::Saturator;
 
 // How often it was passed.
@@ -17,17 +17,6 @@ impl Gate for Counting {
     fn between(&mut self) {
         self.passed = self.passed.wrapping_add(1);
     }
-}
-
-// That key 1 says that key 2 speaks for name 10, with serial numbers from one on.
-fn hand_offs(alloc: Global, first: u64, count: u64) -> Result<Vec<Arc<Cert>>, Fail> {
-    let mut certs = Vec::new(alloc);
-    for number in 0..count {
-        let serial = first.wrapping_add(number);
-        let body = CertBody::says(1, None, Term::Key(2), Term::Name(10), 2000, serial);
-        certs.push(Arc::new(alloc, Cert::of(alloc, body)?)?)?;
-    }
-    Ok(certs)
 }
 
 // How often an ask passes the gate, and whether it was judged.

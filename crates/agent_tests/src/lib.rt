@@ -1,5 +1,4 @@
-//! Tests of shards and of what is asked of them. A crate with tests is proved twice, so they stand
-//! here.
+//! Tests of shards that one thread has, and of lemmas. A crate with tests is proved twice, so they stand here.
 #![tactic(auto)]
 
 #[cfg(test)]
@@ -7,10 +6,8 @@ mod asks;
 #[cfg(test)]
 mod gate;
 #[cfg(test)]
-mod keeping;
-#[cfg(test)]
-mod lone;
+mod kept_once;
 #[cfg(test)]
 mod presented;
 #[cfg(test)]
-mod shard;
+mod remembering;

@@ -1,6 +1,7 @@
 use crate::asks::{asked, one_shard};
 use agent_core::*;
 use prin_term::Term;
+use shard_core::*;
 use std::alloc::{AllocError, Global};
 use std::sync::{Arc, Wait};
 use std::test::*;

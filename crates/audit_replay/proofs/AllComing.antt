@@ -12,9 +12,9 @@ use Rattle.byte_fields.proofs.FieldLaws.{IsBytes}
 use Rattle.prin_term.specs.declared.term.Anchor.{Anchor}
 use Rattle.object_core.specs.Objects.{ObjectPlan, ObjectSeen}
 use Rattle.object_core.specs.Shelving.{ObjectFixed, fixed_of, numbers_of}
-use Rattle.agent_core.specs.Alone.{plans_in}
+use Rattle.shard_core.specs.Alone.{plans_in}
 use Rattle.agent_core.specs.Journals.{ShardSeen}
-use Rattle.agent_core.specs.Opened.{new_shard}
+use Rattle.shard_core.specs.Opened.{new_shard}
 use Rattle.agent_core.specs.Plans.{AreShards, IsPlan}
 use Rattle.agent_core.specs.State.{Plan}
 use Rattle.node_open.specs.Cells.{Cells, new_object}

@@ -21,13 +21,12 @@ use Rattle.agent_core.specs.declared.told.DropCause.{DropCause}
 use Rattle.agent_core.specs.declared.told.Told.{Told}
 use Rattle.agent_core.specs.Answers.{Full, Handed, given_by}
 use Rattle.agent_core.specs.Journals.{Entry, entry, IsJudged, Stands}
-use Rattle.agent_core.specs.Kept.{ask_in}
+use Rattle.agent_core.specs.State.{ask_in, Plan, Ask, Asks, Event}
 use Rattle.agent_core.specs.Plans.{IsPlan}
-use Rattle.agent_core.specs.State.{Plan, Ask, Asks, Event}
 use Rattle.agent_core.specs.Steps.{Hit, IsAnswer, Miss, Other, StepAnswer, hit, miss, other}
 use Rattle.object_core.specs.Operation.{FitsGrant}
 use Rattle.agent_core.proofs.Few.{judges_few}
-use Rattle.agent_core.proofs.Opening.{slice_at}
+use Rattle.agent_core.proofs.AtPlaces.{slice_at}
 use Rattle.journal_bytes.specs.Events.{ask_there}
 use Rattle.journal_bytes.specs.Limits.{FitsAsk, FitsEvent}
 use Rattle.journal_bytes.specs.Spelled.{SpelledEntry, event_spelled}

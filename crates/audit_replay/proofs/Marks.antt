@@ -15,7 +15,7 @@ use Rattle.agent_core.specs.State.{Plan, Ask, Asks, Judged}
 use Rattle.agent_core.specs.Journals.{Entry, entry, Begins, IsJudged, Stands}
 use Rattle.agent_core.proofs.Journaling.{slice_front}
 use Rattle.agent_core.proofs.Onward.{stands_on}
-use Rattle.agent_core.proofs.Opening.{slice_at}
+use Rattle.agent_core.proofs.AtPlaces.{slice_at}
 use Rattle.audit_replay.specs.declared.due.Due.{Due}
 use Rattle.audit_replay.specs.Legal.{IsDue, IsRulingBy, hit, missed}
 use Rattle.audit_replay.specs.Marks.{AreMarks, IsMark}

@@ -8,8 +8,8 @@ use Rattle.std.proofs.lemmas.Option.{same_Some, slice_get_within}
 use Rattle.agent_core.specs.Journals.{Entry, IsLegalJournal, ShardSeen}
 use Rattle.agent_core.specs.Plans.{IsPlan}
 use Rattle.agent_core.specs.State.{Plan}
-use Rattle.agent_core.proofs.OneOwner.{set_itself}
-use Rattle.agent_core.proofs.Places.{set_other, set_same}
+use Rattle.shard_core.proofs.OneOwner.{set_itself}
+use Rattle.shard_core.proofs.Places.{set_other, set_same}
 use Rattle.audit_replay.specs.declared.due.Due.{Due}
 use Rattle.audit_replay.specs.declared.stepping.ShardReplay.{ShardReplay}
 use Rattle.audit_replay.specs.Marks.{AreMarks, AreSound, IsDueThere, IsMark, IsSound}

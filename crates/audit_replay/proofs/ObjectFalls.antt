@@ -10,7 +10,7 @@ use Rattle.byte_fields.proofs.ReaderLaws.{AllPairs-before}
 use Rattle.object_core.specs.Objects.{ObjectEntry}
 use Rattle.object_core.specs.Shelving.{ObjectFixed}
 use Rattle.agent_core.specs.Journals.{Entry}
-use Rattle.agent_core.proofs.Opening.{slice_at}
+use Rattle.agent_core.proofs.AtPlaces.{slice_at}
 use Rattle.node_open.specs.Cells.{Cells}
 use Rattle.journal_bytes.specs.Spelled.{ObjectJournal, numbered}
 use Rattle.audit_replay.specs.declared.replayed.ReplayCause.{ReplayCause}

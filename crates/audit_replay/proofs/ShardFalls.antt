@@ -6,7 +6,7 @@ use Rattle.std.proofs.lemmas.Option.{same_Some}
 use Rattle.agent_core.specs.State.{Plan}
 use Rattle.agent_core.specs.Journals.{Entry, IsLegalJournal, MayFollow, told_at}
 use Rattle.agent_core.proofs.Making.{front_legal}
-use Rattle.agent_core.proofs.Opening.{slice_at}
+use Rattle.agent_core.proofs.AtPlaces.{slice_at}
 use Rattle.journal_bytes.specs.Spelled.{SpelledEntry, SpelledEvent, Asks, Keeps, Holds, Discards, Forgets, Expires, Withdraws, spelled}
 use Rattle.journal_bytes.proofs.OneJournal.{event_is, one_journal}
 use Rattle.audit_replay.specs.declared.replayed.ReplayCause.{ReplayCause}

@@ -1,7 +1,7 @@
 -- How lists fall apart.
 use Rattle.std.proofs.Common.{◌≡◌, ◌⊎◌, inl, inr, ℕ, zero, suc, ◌<◌, List, [], ◌∷◌, ◌++◌, length, map, Some, slice_get, refl, sym, ap, ap₂, ◌∙◌, arith, append_assoc}
 use Rattle.std.proofs.lemmas.Option.{same_Some, slice_get_within}
-use Rattle.agent_core.proofs.Opening.{slice_at}
+use Rattle.agent_core.proofs.AtPlaces.{slice_at}
 
 module _ {X : Type 0} where
   pub head_is : (x y : X) (xs ys : List X) → x ∷ xs ≡ y ∷ ys → x ≡ y

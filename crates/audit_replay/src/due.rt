@@ -9,13 +9,14 @@ ghost use Rattle.audit_replay.specs.Legal.{IsRulingBy};
 ghost use Rattle.audit_replay.specs.Stepping.{IsLastMark, WasMissed, WasStepped};
 
 use crate::event::ask_at;
-use agent_core::{Answer, Ask, Shard, Snapshot, granting_entry};
+use agent_core::{Answer, Ask, Snapshot, granting_entry};
 use object_core::Ruling;
 use prin_term::Anchor;
+use shard_core::Shard;
 use taos_calculus::Decide;
 
 /// What is due to an Ask that was judged, and whether an entry of an object names it already.
-#[derive(Clone, Copy, Debug, PartialEq, Eq)]
+#[derive(Clone, Copy, PartialEq, Eq)]
 pub(crate) struct Due {
     pub ruling: Ruling,
     pub named: bool,

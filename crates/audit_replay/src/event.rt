@@ -11,9 +11,10 @@ ghost use Rattle.journal_bytes.specs.Spelled.{Keeps};
 ghost use Rattle.journal_bytes.specs.View.{event_seen};
 
 use crate::lists::Lists;
-use agent_core::{Ask, Event, Shard, ShardEntry, ask_in};
+use agent_core::{Ask, Event, ShardEntry, ask_in};
 use journal_bytes::SpelledEvent;
 use proof_cache::{Cached, lease_of};
+use shard_core::Shard;
 use std::alloc::{AllocError, Global};
 use std::sync::Arc;
 use stmt_codec::Cert;

@@ -7,14 +7,14 @@ ghost use Rattle.audit_replay.specs.Stepping.{failure_at};
 use crate::replayed::{Cell, ReplayCause};
 
 /// The first entry that fails of one cell.
-#[derive(Clone, Copy, Debug, PartialEq, Eq)]
+#[derive(Clone, Copy, PartialEq, Eq)]
 pub(crate) struct Fall {
     pub place: u64,
     pub cause: ReplayCause,
 }
 
 /// The first entry that fails of all.
-#[derive(Clone, Copy, Debug, PartialEq, Eq)]
+#[derive(Clone, Copy, PartialEq, Eq)]
 pub(crate) struct Failure {
     pub cell: Cell,
     pub place: u64,
@@ -22,7 +22,7 @@ pub(crate) struct Failure {
 }
 
 /// What is known so far.
-#[derive(Clone, Copy, Debug, PartialEq, Eq)]
+#[derive(Clone, Copy, PartialEq, Eq)]
 pub(crate) struct Progress {
     /// Whether the cells are those of the opening.
     pub same: bool,

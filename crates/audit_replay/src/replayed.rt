@@ -1,14 +1,14 @@
 //! What journals come to beside an opening.
 
 /// A shard or an object, by its number.
-#[derive(Clone, Copy, Debug, PartialEq, Eq, Hash)]
+#[derive(Clone, Copy, PartialEq, Eq, Hash)]
 pub enum Cell {
     Shard(u32),
     Object(u32),
 }
 
 /// Why an entry fails, in the order in which the causes are looked at.
-#[derive(Clone, Copy, Debug, PartialEq, Eq, Hash)]
+#[derive(Clone, Copy, PartialEq, Eq, Hash)]
 pub enum ReplayCause {
     /// The journals are not those of the opening's shards and objects. It comes before all others, at
     /// shard 0 and place 0.
@@ -27,7 +27,7 @@ pub enum ReplayCause {
     Ruling,
 }
 
-#[derive(Clone, Copy, Debug, PartialEq, Eq)]
+#[derive(Clone, Copy, PartialEq, Eq)]
 pub enum Replayed {
     /// How many entries there are, those of objects too.
     Legal {

@@ -18,8 +18,9 @@ use crate::event::next_event;
 use crate::fall::Fall;
 use crate::lists::Lists;
 use crate::replayed::ReplayCause;
-use agent_core::{Answer, Event, Shard, Told};
+use agent_core::{Answer, Event, Told};
 use journal_bytes::{SpelledEntry, SpelledEvent};
+use shard_core::Shard;
 use std::alloc::{AllocError, Global};
 use taos_calculus::Decide;
 

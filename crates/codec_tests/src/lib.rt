@@ -1,28 +1,16 @@
-//! Tests of principals, certificates, seals, credentials and operations, of frames, of relays, of their paths and of wallets. A
-//! crate with tests is proved twice, so they stand here.
+//! Tests of formats: bytes, tags and digests from outside, what is printed, and what no clause tells. A crate with
+//! tests is proved twice, so they stand here.
 #![tactic(auto)]
 
 #[cfg(test)]
-mod bodies;
-#[cfg(test)]
-mod credentials;
-#[cfg(test)]
 mod frames;
 #[cfg(test)]
-mod objects;
+mod loads;
 #[cfg(test)]
-mod operations;
+mod opened;
 #[cfg(test)]
-mod paths;
-#[cfg(test)]
-mod pulls;
-#[cfg(test)]
-mod relays;
-#[cfg(test)]
-mod seals;
-#[cfg(test)]
-mod shelves;
+mod printed;
 #[cfg(test)]
 mod tags;
 #[cfg(test)]
-mod terms;
+mod vectors;

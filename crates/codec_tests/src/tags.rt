@@ -1,6 +1,6 @@
-use keyed_seal::{KeyFault, KeyTable, Sealer, hmac, tag_is};
-use std::alloc::Global;
-use std::test::Fail;
+//! Tags from outside.
+
+use keyed_seal::{Sealer, hmac, tag_is};
 
 // The tags of RFC 4231, cases 1, 2 and 6.
 const HI_THERE: [u8; 32] = [
@@ -48,12 +48,6 @@ fn tags_are_those_of_rfc_4231(rt: HostRuntime) {
 }
 
 #[test]
-fn a_tag_of_another_length_is_none(rt: HostRuntime) {
-    assert!(rt; !tag_is(b"Jefe", b"what do ya want for nothing?", &JEFE[..31]));
-    assert!(rt; !tag_is(b"Jefe", b"what do ya want for nothing?", &[]));
-}
-
-#[test]
 fn a_sealer_gives_the_tag_of_its_key(rt: HostRuntime) {
     let sealer = Sealer::of(&[1; 32]);
     let mut tag = ABC_UNDER_ONES;
@@ -61,98 +55,4 @@ fn a_sealer_gives_the_tag_of_its_key(rt: HostRuntime) {
     assert!(rt; is_so && sealer.key() == &[1; 32]);
     tag[0] ^= 0x80;
     assert!(rt; !sealer.tag_is(b"abc", &tag));
-}
-
-// The one key of a number: 32 bytes of this value.
-pub(crate) fn one_key(alloc: Global, number: u32, value: u8) -> Result<KeyTable, Fail> {
-    let mut table = KeyTable::new(alloc, 1)?;
-    table.add(number, [value; 32])?;
-    Ok(table)
-}
-
-// The keys of these numbers, each 32 bytes of its number.
-pub(crate) fn table_of(alloc: Global, numbers: &[u8], room: usize) -> Result<KeyTable, Fail> {
-    let mut table = KeyTable::new(alloc, room)?;
-    for number in numbers {
-        table.add(*number as u32, [*number; 32])?;
-    }
-    Ok(table)
-}
-
-// Whether the table has the key of a number, at this place.
-fn has(table: &KeyTable, place: usize, number: u8) -> bool {
-    let key = [number; 32];
-    let wide = number as u32;
-    table.at(place) == Some((wide, &key)) && table.get(wide) == Some(&key)
-}
-
-const PLACES: &[(usize, u8)] = &[(0, 1), (1, 4), (2, 9)];
-
-fn lacks(table: &KeyTable, numbers: &[u32]) -> bool {
-    for number in numbers {
-        if table.get(*number).is_some() {
-            return false;
-        }
-    }
-    true
-}
-
-#[test]
-fn a_table_gives_each_key_under_its_number(rt: HostRuntime) -> Result<(), Fail> {
-    let table = table_of(rt.alloc(), &[9, 1, 4], 3)?;
-    for &(place, number) in PLACES {
-        assert!(rt; has(&table, place, number), "at {place}");
-    }
-    assert!(rt; table.count() == 3 && table.at(3).is_none());
-    assert!(rt; lacks(&table, &[0, 2, 5, 10, u32::MAX]));
-    Ok(())
-}
-
-#[test]
-fn a_full_table_still_names_the_key_that_is_there(rt: HostRuntime) -> Result<(), Fail> {
-    let mut table = table_of(rt.alloc(), &[1], 1)?;
-    assert!(rt; table.add(1, [2; 32]) == Err(KeyFault::Twice { number: 1 }));
-    assert!(rt; table.add(2, [2; 32]) == Err(KeyFault::TableFull { room: 1 }));
-    assert!(rt; table.get(1) == Some(&[1; 32]));
-    Ok(())
-}
-
-#[test]
-fn a_table_without_room_takes_no_key(rt: HostRuntime) -> Result<(), Fail> {
-    let mut table = KeyTable::new(rt.alloc(), 0)?;
-    assert!(rt; table.add(1, [1; 32]) == Err(KeyFault::TableFull { room: 0 }));
-    Ok(())
-}
-
-#[test]
-fn a_table_prints_no_key(rt: HostRuntime) -> Result<(), Fail> {
-    let table = table_of(rt.alloc(), &[7], 2)?;
-    let printed = format!(in rt.alloc(); "{table:?}")?;
-    assert!(rt; printed.as_str() == "KeyTable { count: 1, room: 2, .. }");
-    Ok(())
-}
-
-#[test]
-fn a_sealer_prints_no_key(rt: HostRuntime) -> Result<(), Fail> {
-    let table = table_of(rt.alloc(), &[7], 2)?;
-    let printed = format!(in rt.alloc(); "{:?}", table.sealer(7))?;
-    assert!(rt; printed.as_str() == "Some(Sealer { .. })");
-    Ok(())
-}
-
-const PRINTED: &[(KeyFault, &str)] = &[
-    (KeyFault::Twice { number: 7 }, "key 7 is there already"),
-    (
-        KeyFault::TableFull { room: 2 },
-        "the table has room for 2 keys",
-    ),
-];
-
-#[test]
-fn a_fault_is_printed_with_its_number(rt: HostRuntime) -> Result<(), Fail> {
-    for &(fault, text) in PRINTED {
-        let printed = format!(in rt.alloc(); "{fault}")?;
-        assert!(rt; printed.as_str() == text, "{text}");
-    }
-    Ok(())
 }

@@ -9,7 +9,7 @@ use frame_link::Failed;
 use std::alloc::Global;
 
 /// What a fetch answered.
-#[derive(Debug, Drop)]
+#[derive(Drop)]
 pub enum Fetched {
     /// These certificates, as bytes that are not opened yet: at most 16, each of fewer than 65,536
     /// bytes.

@@ -23,7 +23,7 @@ use stmt_codec::CertBody;
 use taos_wire::{MAX_CERTS, Request};
 
 /// What came of a pull.
-#[derive(Clone, Copy, Debug, PartialEq, Eq)]
+#[derive(Clone, Copy, PartialEq, Eq)]
 pub enum Pulled {
     /// Of the fetched certificates those that open stand behind those that the request presents.
     Ready,
@@ -37,7 +37,7 @@ pub enum Pulled {
 }
 
 // Why one fetched certificate was not pulled.
-#[derive(Clone, Copy, Debug)]
+#[derive(Clone, Copy)]
 pub(crate) enum LeftOff {
     // The call of the link failed.
     LinkFailed,
@@ -46,7 +46,7 @@ pub(crate) enum LeftOff {
 }
 
 // Why fetched certificates were not pulled.
-#[derive(Clone, Copy, Debug)]
+#[derive(Clone, Copy)]
 pub(crate) enum PullStop {
     // The call of the link failed at this one.
     LinkFailed { place: usize },

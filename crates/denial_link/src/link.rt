@@ -1,7 +1,7 @@
 //! What a denial names.
 
 /// The first missing, expired or early link. An entry is named by its place in the access list.
-#[derive(Clone, Copy, Debug, PartialEq, Eq, Hash)]
+#[derive(Clone, Copy, PartialEq, Eq, Hash)]
 pub enum Link {
     /// The certificate at this place would have been enough, with those that end later.
     Expired { entry: u8, cert: u8 },

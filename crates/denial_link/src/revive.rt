@@ -58,7 +58,7 @@ fn ask_with<D: Decide>(
 }
 
 /// An entry, and the certificate that is not live with which its principal is derivable first.
-#[derive(Clone, Copy, Debug)]
+#[derive(Clone, Copy)]
 pub(crate) struct Revival {
     pub(crate) entry: u8,
     pub(crate) cert: u8,

@@ -8,9 +8,9 @@ use Rattle.std.proofs.lemmas.List.{get_or_default, length-map}
 use Rattle.std.proofs.lemmas.List.Elements.{All-head, All-tail}
 use Rattle.std.proofs.lemmas.List.FromFn.{length-range_with_len}
 use Rattle.agent_shards.specs.Each.{Each3}
-use Rattle.drill_law.specs.Lanes.{AnswersLane, HadMemory}
-use Rattle.drill_law.specs.Laws.{LoadIsCounted}
-use Rattle.drill_journal.specs.Requests.{IsLoadNode}
+use Rattle.run_laws.specs.Lanes.{AnswersLane, HadMemory}
+use Rattle.run_laws.specs.LoadLaws.{LoadIsCounted}
+use Rattle.run_laws.specs.Requests.{IsLoadNode}
 use Rattle.node_words.specs.Words.{DrillWords}
 use Rattle.object_core.specs.Shelving.{numbers_of as object_numbers}
 use Rattle.taos_drill.specs.Opened.{drill_opening}
@@ -23,7 +23,7 @@ use Rattle.taos_lanes.specs.Visits.{Visit}
 use Rattle.request_course.specs.Cells.{Node}
 use Rattle.request_course.specs.World.{World}
 use Rattle.drill_run.specs.Drills.{AnswersAll, AreDrillLanes, HaveMemory, Wire, wire_told}
-use Rattle.opened_node.specs.Opened.{IsNodeOf}
+use Rattle.taos_lanes.specs.Opened.{IsNodeOf}
 use Rattle.frame_link.specs.Streams.{Stream}
 use Rattle.frame_link.specs.declared.limits.Limits.{Limits}
 

@@ -3,8 +3,8 @@ use Rattle.std.specs.Prelude.{◌≡◌, ℕ, false, ◌<◌, List, [], ◌∷�
 use Rattle.std.specs.Io.KnownBytes.{Appends, Keeps}
 use Rattle.std.specs.List.{All, AllZip, range_with_len}
 use Rattle.frame_link.specs.Doors.{DoorSeen, door_of}
-use Rattle.drill_journal.specs.Counts.{CountsLoad}
-use Rattle.drill_law.specs.Lanes.{HadMemory}
+use Rattle.run_laws.specs.Counts.{CountsLoad}
+use Rattle.run_laws.specs.Lanes.{HadMemory}
 use Rattle.frame_link.specs.declared.outcome.Outcome.TheVariants.{End}
 use Rattle.frame_link.specs.Plan.{plan_of}
 use Rattle.frame_link.specs.Faults.{Rose}
@@ -29,8 +29,8 @@ use Rattle.taos_lanes.specs.Visits.{Visit}
 use Rattle.request_course.specs.Cells.{Node}
 use Rattle.drill_run.specs.declared.serving.DrillEnd.{DrillEnd}
 use Rattle.drill_run.specs.declared.serving.DrillEnd.TheVariants as drill
-use Rattle.opened_node.specs.Opened.{ServesOpening}
-use Rattle.count_lines.specs.Summary.{drill_line}
+use Rattle.taos_lanes.specs.Opened.{ServesOpening}
+use Rattle.taos_lanes.specs.Summary.{drill_line}
 use Rattle.node_words.specs.Words.{DrillWords}
 
 -- a connection of a drill: bytes in memory, and a sink that grows

@@ -8,20 +8,18 @@ ghost use Rattle.drill_run.specs.Drills.{AreDrillLanes, DrillCauses, Drills, IsD
 ghost use Rattle.node_words.specs.Words.{drill_words};
 ghost use Rattle.std.specs.declared.alloc.Global.{Global};
 
-use count_lines::drill_line;
 use cred_pull::NoFetch;
-use drill_law::loads_are_counted;
 use frame_link::{Failed, Limits, MemClock, MemDoor, MemSource, NoRelay, Sink, pour};
 use node_words::Drill;
-use opened_node::open_parts;
+use run_laws::loads_are_counted;
 use std::alloc::{AllocError, Global};
 use std::sync::Wait;
 use std::thread::Threads;
 use taos_drill::{DrillPlan, GrowingSink, MAX_LANES, MAX_REQUESTS, READING};
-use taos_lanes::{Lane, Served, serve};
+use taos_lanes::{Lane, Served, drill_line, open_parts, serve};
 
 /// How a drill ended.
-#[derive(Clone, Copy, Debug, PartialEq, Eq)]
+#[derive(Clone, Copy, PartialEq, Eq)]
 pub enum DrillEnd {
     /// The line of what was counted was written.
     Done,

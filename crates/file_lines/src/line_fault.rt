@@ -8,7 +8,7 @@ use crate::fault::{FileCause, FileFault};
 use std::alloc::{AllocError, AllocFailed};
 
 /// Why a line is refused.
-#[derive(Clone, Copy, Debug, PartialEq, Eq, Hash)]
+#[derive(Clone, Copy, PartialEq, Eq, Hash)]
 pub enum LineFault {
     /// What the line says is refused.
     Refused(FileCause),

@@ -78,7 +78,7 @@ failed_follows kept client k seat place at here =
       size = same_size kept k (record seat { standing = Lost });
     }
 
-open_taken : (s : Standing) → s ≡ Open → IsTaken s
+pub open_taken : (s : Standing) → s ≡ Open → IsTaken s
 open_taken s is = subst (λ (t : Standing). IsTaken t) (sym is) tt
 
 open_well : (s : Standing) → s ≡ Open → IsWellStanding s

@@ -17,3 +17,4 @@ pub mod Queueing
 pub mod Passing
 pub mod Leaving
 pub mod Outcomes
+pub mod Seating

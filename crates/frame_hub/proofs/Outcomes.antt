@@ -5,17 +5,17 @@ use Rattle.std.proofs.lemmas.List.{set-set}
 use Rattle.std.proofs.lemmas.Option.{slice_get_within}
 use Rattle.frame_link.specs.Frames.{frame}
 use Rattle.frame_hub.specs.Events.{Event, Replied, Failed}
-use Rattle.frame_hub.specs.Kept.{Kept, IsWellStanding, IsKeptOf, HasSeat, IsHere}
-use Rattle.frame_hub.specs.Calls.{Follows, Settles, HasSize, IsNext, IsWell, left_of, outbox_in}
+use Rattle.frame_hub.specs.Kept.{Kept, IsTaken, IsWellStanding, IsKeptOf, HasSeat, IsHere}
+use Rattle.frame_hub.specs.Calls.{Follows, Settles, HasSize, IsNext, IsWell, IsHeard, left_of, outbox_in}
 use Rattle.frame_hub.specs.Queues.{Queues}
 use Rattle.frame_hub.specs.declared.seat.Seat.{Seat}
-use Rattle.frame_hub.specs.declared.seat.Standing.TheVariants.{Lost}
+use Rattle.frame_hub.specs.declared.seat.Standing.TheVariants.{Lost, Open}
 use Rattle.frame_hub.proofs.Members.{some_is, get_set_same}
 use Rattle.frame_hub.proofs.Seats.{well_taken}
 use Rattle.frame_hub.proofs.Filing.{queued_but, queued_all, here_from}
 use Rattle.frame_hub.proofs.Replying.{filed_answered, kept_gone}
 use Rattle.frame_hub.proofs.Turning.{with_both}
-use Rattle.frame_hub.proofs.Calling.{seat_is, at_place, settled_size, kept_failed}
+use Rattle.frame_hub.proofs.Calling.{seat_is, at_place, settled_size, kept_failed, open_taken}
 
 -- whose frame comes first
 pub next_is : (kept : Kept) (lane client : ℕ) (rest : List ℕ) (l : Queues) → slice_get kept.lanes lane ≡ Some l → l.waiting ≡ client ∷ rest → IsNext lane kept client
@@ -27,10 +27,18 @@ next_was kept lane client c rest l at first is =
     let there : slice_get l.waiting 0 ≡ Some c = subst (λ (o : Option Queues). MatchOption o ⊥ (λ q. slice_get q.waiting 0 ≡ Some c)) at is in
     sym (some_is (sym (ap (λ (x : List ℕ). slice_get x 0) first) ∙ there))
 
-well_here : (kept : Kept) (client : ℕ) (seat : Seat) → slice_get kept.seats (client % length kept.seats) ≡ Some seat → IsWell kept client → IsHere kept client
+pub well_here : (kept : Kept) (client : ℕ) (seat : Seat) → slice_get kept.seats (client % length kept.seats) ≡ Some seat → IsWell kept client → IsHere kept client
 well_here kept client seat at well =
     let w = seat_is (λ s. (s.client ≡ client) × IsWellStanding s.standing) kept.seats (client % length kept.seats) seat at well in
     here_from kept client seat at (record { its = w.0; taken = well_taken seat.standing w.1 })
+
+-- who is well stands well, and who is heard is open
+pub well_at : (kept : Kept) (client : ℕ) (seat : Seat) → slice_get kept.seats (client % length kept.seats) ≡ Some seat → IsWell kept client → IsWellStanding seat.standing
+well_at kept client seat at well = (seat_is (λ s. (s.client ≡ client) × IsWellStanding s.standing) kept.seats (client % length kept.seats) seat at well).1
+
+pub heard_taken : (kept : Kept) (client : ℕ) (seat : Seat) → slice_get kept.seats (client % length kept.seats) ≡ Some seat → IsHeard kept client → IsTaken seat.standing
+heard_taken kept client seat at heard =
+    open_taken seat.standing (seat_is (λ s. (s.client ≡ client) × (s.standing ≡ Open)) kept.seats (client % length kept.seats) seat at heard).1
 
 -- a client that has gone
 pub gone_follows : (kept : Kept) (lane client : ℕ) (rest payload : List ℕ) (l : Queues) → slice_get kept.lanes lane ≡ Some l → l.waiting ≡ client ∷ rest → (IsHere kept client → ⊥) →

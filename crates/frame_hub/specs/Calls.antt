@@ -3,10 +3,10 @@ use Rattle.std.specs.Prelude.{◌≡◌, ◌⊎◌, ℕ, ◌+◌, ◌%◌, ◌<�
 use Rattle.std.specs.List.{slice_get, Contains, filter}
 use Rattle.frame_link.specs.Frames.{IsPart, IsTooLong}
 use Rattle.frame_link.specs.declared.service.TheConstants.{MAX_PAYLOAD}
-use Rattle.frame_hub.specs.Events.{Event, Opened, Replied, Failed}
+use Rattle.frame_hub.specs.Events.{Event, Opened, Replied, Failed, Closed}
 use Rattle.frame_hub.specs.Accounts.{account_of}
 use Rattle.frame_hub.specs.Fair.{Waits}
-use Rattle.frame_hub.specs.Kept.{Kept, IsKeptOf, IsFiled, AreQueuedBut, IsWellStanding, seat_of, MayTurn, HasTurn, IsLaneFor}
+use Rattle.frame_hub.specs.Kept.{Kept, IsKeptOf, IsFiled, AreQueuedBut, IsTaken, IsWellStanding, seat_of, MayTurn, HasTurn, IsLaneFor}
 use Rattle.frame_hub.specs.Queues.{Queues}
 use Rattle.frame_hub.specs.declared.answering.Answer.{Answer}
 use Rattle.frame_hub.specs.declared.answering.Answer.TheVariants.{For, Slow, NoMemory, Nobody}
@@ -72,6 +72,21 @@ pub record IsIdle (seat : Seat) : Type 0 where
   pub answered : seat.under_way ≡ 0
   pub written : seat.outbox ≡ []
 
+-- all that came of a client was taken, answered and written, and more may come
+pub record IsAtRest (seat : Seat) : Type 0 where
+  pub heard : seat.standing ≡ Open
+  pub idle : IsIdle seat
+  pub taken : seat.inbox ≡ []
+
+abbrev pub IsQuiet : Kept → ℕ → Type 0
+IsQuiet kept client =
+    MatchOption (seat_of kept client) ⊥ (λ seat. (seat.client ≡ client) × IsAtRest seat)
+
+-- a client has its seat, and all that was taken of it is answered and written
+abbrev pub IsServedOut : Kept → ℕ → Type 0
+IsServedOut kept client = MatchOption (seat_of kept client) ⊥
+    (λ seat. (seat.client ≡ client) × IsTaken seat.standing × IsIdle seat)
+
 -- Who may be let go: who failed; who is idle and has a length above the limit next; who said its
 -- last, is idle, and has no whole frame left.
 abbrev pub LeavesAs : Standing → Seat → Type 0
@@ -109,19 +124,29 @@ abbrev pub HasSpace : Kept → ℕ → ℕ → Type 0
 HasSpace kept client size = length (left_of kept client) + 4 + size ≤ MAX_LEFT
 
 -- A lane's reply is for the client whose frame comes first, if it is well; else it goes nowhere. Where
--- too much would be left to write the client has failed, and where there is no memory.
-abbrev pub IsAnswered : ℕ → List ℕ → Kept → Kept → Answer → Type 0
-IsAnswered lane payload old new (For client) = IsNext lane old client × IsWell old client
+-- too much would be left to write the client has failed, and where there is no memory. What happens to
+-- who failed comes last.
+abbrev pub AnswersBy : (ℕ → List Event) → ℕ → List ℕ → Kept → Kept → Answer → Type 0
+AnswersBy failing lane payload old new (For client) = IsNext lane old client × IsWell old client
     × HasSpace old client (length payload) × Follows old new (Replied lane payload ∷ [])
-IsAnswered lane payload old new (Slow client) = IsNext lane old client × IsWell old client
+AnswersBy failing lane payload old new (Slow client) = IsNext lane old client × IsWell old client
     × (HasSpace old client (length payload) → ⊥)
-    × Follows old new (Replied lane payload ∷ Failed client ∷ [])
-IsAnswered lane payload old new (NoMemory client) = IsNext lane old client × IsWell old client
+    × Follows old new (Replied lane payload ∷ failing client)
+AnswersBy failing lane payload old new (NoMemory client) = IsNext lane old client × IsWell old client
     × HasSpace old client (length payload)
-    × Follows old new (Replied lane payload ∷ Failed client ∷ [])
-IsAnswered lane payload old new Nobody =
+    × Follows old new (Replied lane payload ∷ failing client)
+AnswersBy failing lane payload old new Nobody =
     Follows old new (Replied lane payload ∷ [])
     × ((client : ℕ) → IsNext lane old client → IsWell old client → ⊥)
+
+-- it is to be let go
+abbrev pub IsReplied : ℕ → List ℕ → Kept → Kept → Answer → Type 0
+IsReplied lane payload old new answer = AnswersBy (λ c. Failed c ∷ []) lane payload old new answer
+
+-- and is let go
+abbrev pub IsAnswered : ℕ → List ℕ → Kept → Kept → Answer → Type 0
+IsAnswered lane payload old new answer =
+    AnswersBy (λ c. Failed c ∷ Closed c ∷ []) lane payload old new answer
 
 -- the turns of a lane
 abbrev pub turns_in : Option Queues → List ℕ

@@ -7,3 +7,4 @@ pub mod First
 pub mod Queues
 pub mod Kept
 pub mod Calls
+pub mod Seating

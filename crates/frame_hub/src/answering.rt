@@ -2,22 +2,24 @@
 
 ghost use Rattle.std.specs.Prelude.{◌≡◌, ◌<◌, ◌≤◌, ◌^◌, ◌∷◌, [], length, take};
 ghost use Rattle.frame_hub.specs.Events.{Wrote};
-ghost use Rattle.frame_hub.specs.Calls.{Follows, IsWell, IsAnswered, HasFrame, left_of};
+ghost use Rattle.frame_hub.specs.Calls.{Follows, IsWell, IsAnswered, IsReplied, HasFrame, left_of};
+ghost use Rattle.frame_hub.specs.Kept.{IsHere};
+ghost use Rattle.frame_hub.specs.Seating.{IsAbout, IsAboutAnswer, Keeps, LeavesOthers, SeatsAfter};
 ghost use Rattle.frame_hub.specs.declared.limits.TheConstants.{MAX_LEFT};
 
 use crate::hub::Hub;
 use crate::seat::Standing;
 
 /// Whom a lane's reply is for.
-#[derive(Clone, Copy, Debug, PartialEq, Eq)]
+#[derive(Clone, Copy, PartialEq, Eq)]
 pub enum Answer {
     /// A client that is still served.
     For { client: u64 },
-    /// One to whom too much would be left to write: it is served no more.
+    /// One to whom too much would be left to write: it has failed, and has its seat no more.
     Slow { client: u64 },
-    /// One for whose reply there is no memory: it is served no more.
+    /// One for whose reply there is no memory: it has failed, and has its seat no more.
     NoMemory { client: u64 },
-    /// Who sent the frame has gone, or has failed.
+    /// Who sent the frame has gone.
     Nobody,
 }
 
@@ -26,7 +28,27 @@ impl Hub {
     pub fn replied(&mut self, lane: usize, payload: &[u8]) -> Answer
         requires frame { HasFrame lane self.old }
         requires short { length payload.now < 2 ^ 32 }
-        ensures { IsAnswered lane payload.now self.old self.new result }
+        ensures answered { IsAnswered lane payload.now self.old self.new result }
+        ensures seats { SeatsAfter self.old self.new result }
+    {
+        let answer = self.answer(lane, payload);
+        if let Answer::Slow { client } = answer {
+            self.close(client);
+            return Answer::Slow { client };
+        }
+        if let Answer::NoMemory { client } = answer {
+            self.close(client);
+            return Answer::NoMemory { client };
+        }
+        answer
+    }
+
+    // A lane's reply to the first of its frames that has none. Who fails by it is to be let go.
+    fn answer(&mut self, lane: usize, payload: &[u8]) -> Answer
+        requires frame { HasFrame lane self.old }
+        requires short { length payload.now < 2 ^ 32 }
+        ensures replied { IsReplied lane payload.now self.old self.new result }
+        ensures about { IsAboutAnswer self.old self.new result }
     {
         let Some(client) = self.lanes[lane].answer() else {
             return Answer::Nobody;
@@ -62,12 +84,27 @@ impl Hub {
         self.seats[self.place_of(client)].outbox.bytes()
     }
 
-    /// So many of these bytes were written.
-    pub fn wrote(&mut self, client: u64, count: usize)
+    /// So many of these bytes were written. Whether the client keeps its seat: it goes with the last
+    /// byte of its last reply, where nothing more can come of it.
+    pub fn wrote(&mut self, client: u64, count: usize) -> bool
         requires well { IsWell self.old client }
         requires part { count ≤ length (left_of self.old client) }
-        ensures { Follows self.old self.new
+        ensures keeps { Keeps client (Wrote client (take count (left_of self.old client)) ∷ [])
+            self.old self.new result }
+        ensures others { LeavesOthers client self.old self.new }
+    {
+        self.cut_left(client, count);
+        self.let_go(client)
+    }
+
+    // So many of the bytes that are left to write were written.
+    fn cut_left(&mut self, client: u64, count: usize)
+        requires well { IsWell self.old client }
+        requires part { count ≤ length (left_of self.old client) }
+        ensures wrote { Follows self.old self.new
             (Wrote client (take count (left_of self.old client)) ∷ []) }
+        ensures about { IsAbout client self.old self.new }
+        ensures here { IsHere self.new client }
     {
         let place = self.place_of(client);
         self.seats[place].outbox.wrote(count);

@@ -2,7 +2,9 @@
 
 ghost use Rattle.std.specs.Prelude.{◌≡◌, ◌↔◌, ◌%◌, ◌∷◌, [], length, IfSome, None, IsTrue};
 ghost use Rattle.frame_hub.specs.Events.{Closed};
+ghost use Rattle.frame_hub.specs.Kept.{IsHere};
 ghost use Rattle.frame_hub.specs.Calls.{Follows, Opens, MayLeave, HasLeftTurns, IsFull, IsForgotten};
+ghost use Rattle.frame_hub.specs.Seating.{IsAbout, IsLetGo, HasLeft, Seats};
 
 use crate::hub::Hub;
 use crate::seat::{Seat, Standing};
@@ -11,6 +13,7 @@ impl Hub {
     /// A client came: the number by which it goes from now on. Where each seat is taken, none.
     pub fn opened(&mut self) -> Option<u64>
         ensures came { IfSome result (Opens self.old self.new) }
+        ensures seats { IfSome result (Seats self.old self.new) }
 
         ensures full { result ≡ None ↔ IsFull self.old }
         ensures unchanged { result ≡ None → self.new ≡ self.old }
@@ -23,20 +26,33 @@ impl Hub {
         Some(seat.client)
     }
 
-    /// Whether the client is to be let go now.
-    pub fn may_leave(&self, client: u64) -> bool
+    // Whether the client is to be let go now.
+    fn may_leave(&self, client: u64) -> bool
         ensures { IsTrue result ↔ MayLeave self.now client }
     {
         let seat = &self.seats[self.place_of(client)];
         seat.client == client && seat.leaves()
     }
 
-    /// Lets a client go, with all that is kept of it. Replies to its frames that lanes still have go
-    /// nowhere.
-    pub fn close(&mut self, client: u64)
+    // Lets a client go, where it may leave. Whether it keeps its seat.
+    pub(crate) fn let_go(&mut self, client: u64) -> bool
+        requires { IsHere self.old client }
+        ensures { IsLetGo client self.old self.new result }
+    {
+        if !self.may_leave(client) {
+            return true;
+        }
+        self.close(client);
+        false
+    }
+
+    // Lets a client go, with all that is kept of it.
+    pub(crate) fn close(&mut self, client: u64)
         requires { MayLeave self.old client }
-        ensures left { Follows self.old self.new (Closed client ∷ []) }
+        ensures closed { Follows self.old self.new (Closed client ∷ []) }
         ensures forgotten { IsForgotten self.new client }
+        ensures about { IsAbout client self.old self.new }
+        ensures left { HasLeft client self.new }
     {
         let place = self.place_of(client);
         self.leave_turns(client, place);

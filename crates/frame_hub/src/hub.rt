@@ -5,7 +5,8 @@ ghost use Rattle.std.specs.List.{slice_get, range_with_len};
 ghost use Rattle.frame_hub.specs.declared.seat.Seat.{Seat};
 ghost use Rattle.frame_hub.specs.declared.seat.Standing.{Standing};
 ghost use Rattle.frame_hub.specs.Kept.{IsKeptOf, IsHere, blank};
-ghost use Rattle.frame_hub.specs.Calls.{HasSize, Settles, IsWell, IsHeard, HasRoom, HasFrame, WantsTurn, WantsNoTurn};
+ghost use Rattle.frame_hub.specs.Calls.{HasSize, Settles, IsWell, IsHeard, IsServedOut, IsQuiet, HasRoom, HasFrame, WantsTurn, WantsNoTurn};
+ghost use Rattle.frame_hub.specs.Seating.{AreSettled, IsEmpty, KeepsSeats};
 
 use crate::lane::Lane;
 use crate::limits::{MAX_AT_LANE, MAX_CLIENTS, MAX_LANES};
@@ -90,6 +91,8 @@ impl Hub {
         requires lanes { (0 < lanes) × (lanes ≤ MAX_LANES) }
         ensures size { IfOk result (HasSize clients lanes place) }
         ensures history { IfOk result (IsKeptOf []) }
+        ensures settled { IfOk result AreSettled }
+        ensures empty { IfOk result IsEmpty }
     {
         let seats = seats_of(alloc, clients)?;
         let lanes = lanes_of(alloc, lanes, clients)?;
@@ -103,8 +106,8 @@ impl Hub {
         })
     }
 
-    // The place of a client's seat.
-    pub(crate) fn place_of(&self, client: u64) -> usize
+    /// The place of a client's seat.
+    pub fn place_of(&self, client: u64) -> usize
         ensures place { result ≡ client % length self.now.seats }
         ensures within { result < length self.now.seats }
     {
@@ -134,6 +137,42 @@ impl Hub {
     {
         let seat = &self.seats[self.place_of(client)];
         seat.client == client && seat.standing == Standing::Open
+    }
+
+    /// Whether nothing of a client that has its seat is here: no frame of it at a lane, and no reply
+    /// left to write.
+    pub fn is_served_out(&self, client: u64) -> bool
+        ensures { IsTrue result ↔ IsServedOut self.now client }
+    {
+        let seat = &self.seats[self.place_of(client)];
+        seat.client == client && seat.is_taken() && seat.is_idle()
+    }
+
+    /// Whether a client waits for nothing: bytes may come of it, and none of it are here, and no reply.
+    pub fn is_quiet(&self, client: u64) -> bool
+        ensures { IsTrue result ↔ IsQuiet self.now client }
+    {
+        let seat = &self.seats[self.place_of(client)];
+        seat.client == client && seat.is_quiet()
+    }
+
+    /// How many seats are free.
+    pub fn free_seats(&self) -> usize
+        ensures { result ≡ length self.now.free }
+    {
+        self.free.len()
+    }
+
+    /// Whether no seat is taken.
+    pub fn is_empty(&self) -> bool
+        ensures { IsTrue result ↔ IsEmpty self.now }
+    {
+        for seat in &self.seats {
+            if seat.is_taken() {
+                return false;
+            }
+        }
+        true
     }
 
     /// Whether a lane may have one frame more.
@@ -180,7 +219,8 @@ impl Hub {
     // Gives a seat its turn, where it is ready and has none.
     pub(crate) fn queue(&mut self, place: usize)
         requires { place < length self.old.seats }
-        ensures { Settles place self.old self.new }
+        ensures settles { Settles place self.old self.new }
+        ensures seats { KeepsSeats self.old self.new }
     {
         let Some(lane) = self.lane_wanted(place) else {
             return;

@@ -13,7 +13,7 @@ use std::alloc::{AllocError, Global};
 use std::marker::Model;
 
 /// What the bytes begin with.
-#[derive(Clone, Copy, Debug, PartialEq, Eq)]
+#[derive(Clone, Copy, PartialEq, Eq)]
 pub enum First {
     /// Less than a frame.
     Part,
@@ -72,6 +72,13 @@ impl Inbox {
         ensures { length self.now + result ≡ MAX_KEPT }
     {
         MAX_KEPT - self.bytes.bytes().len()
+    }
+
+    /// Whether it holds nothing.
+    pub fn is_empty(&self) -> bool
+        ensures { IsTrue result ↔ self.now ≡ [] }
+    {
+        self.bytes.bytes().is_empty()
     }
 
     /// Adds bytes that came.

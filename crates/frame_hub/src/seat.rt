@@ -1,8 +1,8 @@
 //! What a hub keeps of one client.
 
 ghost use Rattle.std.specs.Prelude.{◌≡◌, ◌↔◌, ◌≤◌, ◌<◌, [], length, None, IsTrue};
-ghost use Rattle.frame_hub.specs.Kept.{IsReady, blank};
-ghost use Rattle.frame_hub.specs.Calls.{IsIdle, LeavesAs};
+ghost use Rattle.frame_hub.specs.Kept.{IsReady, IsTaken, blank};
+ghost use Rattle.frame_hub.specs.Calls.{IsAtRest, IsIdle, LeavesAs};
 
 use crate::inbox::{First, Inbox};
 use crate::limits::{MAX_READY, MAX_UNDER_WAY};
@@ -10,7 +10,7 @@ use crate::outbox::Outbox;
 use std::alloc::Global;
 
 /// How a client stands.
-#[derive(Clone, Copy, Debug, PartialEq, Eq)]
+#[derive(Clone, Copy, PartialEq, Eq)]
 pub enum Standing {
     /// Nobody has the seat.
     Free,
@@ -25,7 +25,7 @@ pub enum Standing {
 }
 
 /// The lane of a client's frames, and whether it stands in the turns there.
-#[derive(Clone, Copy, Debug, PartialEq, Eq)]
+#[derive(Clone, Copy, PartialEq, Eq)]
 pub struct Route {
     pub lane: usize,
     pub queued: bool,
@@ -77,8 +77,25 @@ impl Seat {
         }
     }
 
-    // Whether all that was taken of it is answered and written.
-    fn is_idle(&self) -> bool
+    /// Whether somebody has it.
+    pub fn is_taken(&self) -> bool
+        ensures { IsTrue result ↔ IsTaken self.now.standing }
+    {
+        match self.standing {
+            Standing::Open | Standing::Ended | Standing::Lost => true,
+            Standing::Free | Standing::Spent => false,
+        }
+    }
+
+    /// Whether all that came of its client was taken, answered and written, and more may come.
+    pub fn is_quiet(&self) -> bool
+        ensures { IsTrue result ↔ IsAtRest self.now }
+    {
+        self.standing == Standing::Open && self.is_idle() && self.inbox.is_empty()
+    }
+
+    /// Whether all that was taken of it is answered and written.
+    pub fn is_idle(&self) -> bool
         ensures { IsTrue result ↔ IsIdle self.now }
     {
         self.under_way == 0 && self.outbox.bytes().is_empty()

@@ -3,6 +3,7 @@
 ghost use Rattle.std.specs.Prelude.{◌≡◌, ◌<◌, ◌≤◌, ◌∷◌, [], length, vec_capacity, MatchOption};
 ghost use Rattle.frame_link.specs.declared.service.TheConstants.{MAX_PAYLOAD};
 ghost use Rattle.frame_hub.specs.Events.{Took};
+ghost use Rattle.frame_hub.specs.Seating.{KeepsSeats, LeavesAll};
 ghost use Rattle.frame_hub.specs.Calls.{Follows, HasRoom, HasFirstTurn, IsFirstUnready, NobodyWaits, turns_at};
 
 use crate::hub::Hub;
@@ -16,6 +17,7 @@ impl Hub {
         ensures passed { Follows self.old self.new [] }
         ensures first { MatchOption result (NobodyWaits lane self.old)
             (λ found. HasFirstTurn lane self.new found.0 found.1) }
+        ensures seats { KeepsSeats self.old self.new }
         ensures room { HasRoom lane self.old → HasRoom lane self.new }
     {
         while let Some(client) = self.lanes[lane].first_turn() {
@@ -33,6 +35,7 @@ impl Hub {
         requires { IsFirstUnready lane self.old place }
         ensures passed { Follows self.old self.new [] }
         ensures fewer { length (turns_at lane self.new) < length (turns_at lane self.old) }
+        ensures seats { KeepsSeats self.old self.new }
         ensures room { HasRoom lane self.old → HasRoom lane self.new }
     {
         self.seats[place].route = Some(Route {
@@ -50,6 +53,7 @@ impl Hub {
         ensures taken { MatchOption result
             (Follows self.old self.new [] × NobodyWaits lane self.old)
             (λ client. Follows self.old self.new (Took lane client out.new.items ∷ [])) }
+        ensures seats { LeavesAll self.old self.new }
         ensures out { MAX_PAYLOAD ≤ vec_capacity out.new }
     {
         let Some((place, size)) = self.first_ready(lane) else {

@@ -15,7 +15,7 @@ use std::marker::Model;
 pub const SMALL_FRAME: usize = 512;
 
 /// What came in place of the next frame, or that it came.
-#[derive(Clone, Copy, Debug, PartialEq, Eq)]
+#[derive(Clone, Copy, PartialEq, Eq)]
 pub enum Next {
     /// The frame's payload is in the buffer.
     Frame,
@@ -30,7 +30,7 @@ pub enum Next {
 }
 
 /// Whether a frame was written.
-#[derive(Clone, Copy, Debug, PartialEq, Eq)]
+#[derive(Clone, Copy, PartialEq, Eq)]
 pub enum Put {
     /// All of it was.
     Done,

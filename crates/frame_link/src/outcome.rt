@@ -1,7 +1,7 @@
 //! How the service of a connection ended.
 
 /// Frames are counted where they were read whole.
-#[derive(Clone, Copy, Debug, PartialEq, Eq)]
+#[derive(Clone, Copy, PartialEq, Eq)]
 pub enum Outcome {
     /// The source ended with no byte of a further frame.
     End { frames: u64 },

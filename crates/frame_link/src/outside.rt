@@ -14,7 +14,7 @@ ghost use Rattle.frame_link.specs.Streams.{Stream};
 use arrayvec::ArrayVec;
 
 /// The call failed, and the count of faults rose.
-#[derive(Clone, Copy, Debug, PartialEq, Eq)]
+#[derive(Clone, Copy, PartialEq, Eq)]
 pub struct Failed;
 
 pub trait Source {
@@ -63,7 +63,7 @@ pub trait Clock {
 }
 
 /// What a relay said of a certificate.
-#[derive(Clone, Copy, Debug, PartialEq, Eq)]
+#[derive(Clone, Copy, PartialEq, Eq)]
 pub enum RelayAnswer {
     /// The new certificate is there.
     Resealed,

@@ -13,7 +13,7 @@ use crate::search::{OF_BOTH, Search};
 use taos_calculus::Node;
 
 /// What is left to do.
-#[derive(Clone, Copy, Debug)]
+#[derive(Clone, Copy)]
 pub enum Gap {
     /// A number is to be put into a row, for this reason.
     Number { row: u16, number: u16, reason: u16 },

@@ -11,7 +11,7 @@ ghost use Rattle.goal_search.specs.Searching.{core, IsReady, IsNumber, IsRow, Ha
 use crate::search::Search;
 
 /// Whether one speaks for another, or says a statement, as far as it is known.
-#[derive(Clone, Copy, Debug)]
+#[derive(Clone, Copy)]
 pub enum Side {
     /// It is known.
     Passed,

@@ -21,7 +21,7 @@ pub const OF_BOTH: u16 = 1_297;
 pub const MAX_ROWS: usize = MAX_NODES + MAX_CERTS;
 
 /// An anchor, by the numbers of its key and its name.
-#[derive(Clone, Copy, Debug)]
+#[derive(Clone, Copy)]
 pub struct Anchored {
     pub key: u16,
     pub name: u16,

@@ -5,8 +5,7 @@ use Rattle.stmt_codec.specs.Certificates.{Certificate}
 use Rattle.taos_calculus.specs.Rules.{Line}
 use Rattle.proof_cache.specs.Cached.{Cached, lease_of}
 use Rattle.agent_core.specs.Caches.{who_at}
-use Rattle.agent_core.specs.Kept.{ask_in}
-use Rattle.agent_core.specs.State.{Ask, Event}
+use Rattle.agent_core.specs.State.{ask_in, Ask, Event}
 use Rattle.agent_core.specs.State as agent
 use Rattle.agent_core.specs.Journals.{Entry}
 use Rattle.journal_bytes.specs.Spelled.{SpelledEvent, Asks, Keeps, Holds, Discards, Forgets}

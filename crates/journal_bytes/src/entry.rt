@@ -6,7 +6,7 @@ use stmt_codec::Cert;
 use taos_calculus::Proof;
 
 /// What is spelled of an event.
-#[derive(Debug, Drop)]
+#[derive(Drop)]
 pub enum SpelledEvent {
     Ask(Ask),
     /// The proof that was made for the Ask at a place of the journal, by an entry of its list. Whose
@@ -25,7 +25,7 @@ pub enum SpelledEvent {
 }
 
 /// What is spelled of an entry of a shard's journal.
-#[derive(Debug, Drop)]
+#[derive(Drop)]
 pub struct SpelledEntry {
     pub event: SpelledEvent,
     pub told: Told,

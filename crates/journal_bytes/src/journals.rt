@@ -4,14 +4,14 @@ use crate::entry::SpelledEntry;
 use object_core::ObjectEntry;
 
 /// The journal of an object.
-#[derive(Debug, Drop)]
+#[derive(Drop)]
 pub struct ObjectJournal {
     pub number: u32,
     pub entries: Vec<ObjectEntry>,
 }
 
 /// The journals of a node.
-#[derive(Debug, Drop)]
+#[derive(Drop)]
 pub struct Journals {
     /// One a shard, in the order of their numbers.
     pub shards: Vec<Vec<SpelledEntry>>,

@@ -19,8 +19,9 @@ use crate::limits::{JOURNALS, VERSION};
 use crate::numbers::{objects_fit, shards_fit};
 use crate::ruled::push_ruled;
 use crate::writing::push_entry;
-use agent_core::{Shard, ShardEntry};
+use agent_core::ShardEntry;
 use object_core::{Object, ObjectEntry};
+use shard_core::Shard;
 use std::alloc::AllocError;
 
 fn push_entries(out: &mut Vec<u8>, journal: &[ShardEntry]) -> Result<(), AllocError>

@@ -17,9 +17,10 @@ ghost use Rattle.journal_bytes.specs.Numbers.{CauseNumbers, EntryNumbers, EventN
 ghost use Rattle.journal_bytes.specs.Numbers.{HasLineNumbers, PartsNumbers, RuledNumbers, ToldNumbers};
 ghost use Rattle.journal_bytes.specs.Spelled.{object_spelled, shard_spelled};
 
-use agent_core::{Ask, DropCause, Event, Shard, ShardEntry, Told};
+use agent_core::{Ask, DropCause, Event, ShardEntry, Told};
 use object_core::{Object, ObjectEntry, Ruling};
 use proof_cache::Cached;
+use shard_core::Shard;
 use std::sync::Arc;
 use stmt_codec::Cert;
 use taos_calculus::{Line, Node, Proof, Step};

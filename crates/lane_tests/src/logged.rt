@@ -1,11 +1,12 @@
 //! Objects and shards that write into one log what is done to them.
 
 ghost use Rattle.object_core.specs.OneOwner.{shelf_seen};
-ghost use Rattle.agent_core.specs.Alone.{shards_seen};
+ghost use Rattle.shard_core.specs.Alone.{shards_seen};
 
-use agent_core::{Answer, Event, Lone, Shards};
+use agent_core::{Answer, Event, Shards};
 use object_core::{LoneShelf, Object, Shelf};
 use prin_term::Anchor;
+use shard_core::Lone;
 use std::alloc::{AllocError, Global};
 use std::sync::Wait;
 use std::sync::atomic::{AtomicU64, Ordering};

@@ -3,14 +3,14 @@
 ghost use Rattle.std.specs.Prelude.{◌<◌, ◌^◌, IfOk};
 ghost use Rattle.taos_lanes.specs.Parts.{ArePartsNew};
 
-use agent_core::{Lone, open_shards};
 use frame_link::MemSource;
 use keyed_seal::{KeyTable, Sealer};
 use object_core::{Object, Op};
+use shard_core::{Lone, open_shards};
 use std::alloc::{AllocError, Global};
 use std::sync::Arc;
 use std::test::Fail;
-use taos_lanes::NodeParts;
+use taos_lanes::{NodeParts, keys_fit};
 use taos_monitor::NodeKeys;
 use taos_wire::{Request, write_request};
 
@@ -39,7 +39,7 @@ pub(crate) fn parts(alloc: Global) -> Result<NodeParts, Fail>
     let anchors = Arc::new(alloc, Vec::new(alloc))?;
     let shards = open_shards(alloc, &[2, 3], 1, &anchors, &[], 3600, 1000)?;
     let lone = Lone::new(shards, Arc::try_clone(&anchors)?);
-    if !keys.fits(&lone) {
+    if !keys_fit(&keys, &lone) {
         return Err(Fail::new("no channel"));
     }
     let object = Object::new(alloc, 5, &[], Arc::new(alloc, Vec::new(alloc))?, 10)?;

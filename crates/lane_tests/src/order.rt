@@ -3,15 +3,17 @@ ghost use Rattle.object_core.specs.OneOwner.{taken_from};
 
 use crate::logged::{ASKED, GAVE, LoggedShards, LoggedShelf, SWEPT};
 use crate::node::{KEY, keys_of};
-use agent_core::{FreeGate, Lone, open_shards};
+use agent_core::FreeGate;
 use frame_link::{MemClock, NoRelay};
 use goal_search::Workbench;
 use object_core::{LoneShelf, Object, Op};
 use prin_term::{Entry, Term};
+use shard_core::{Lone, open_shards};
 use std::alloc::Global;
 use std::sync::Arc;
 use std::sync::atomic::{AtomicU64, Ordering};
 use std::test::Fail;
+use taos_lanes::keys_fit;
 use taos_monitor::{MAX_REQUEST, ReplyBuf, answer};
 use taos_wire::{Request, write_request};
 
@@ -53,7 +55,7 @@ fn a_granted_sweep_is_performed_after_its_ruling_stands(rt: HostRuntime) -> Resu
     let opened = open_shards(alloc, &[2, 3], 2, &anchors, &[], 3600, 1000)?;
     let lone = Lone::new(opened, anchors);
     let payload = sweep(alloc)?;
-    if !keys.fits(&lone) || payload.len() > MAX_REQUEST as usize {
+    if !keys_fit(&keys, &lone) || payload.len() > MAX_REQUEST as usize {
         return Err(Fail::new("no channel"));
     }
     let mut shards = LoggedShards {

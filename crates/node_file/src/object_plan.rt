@@ -4,7 +4,7 @@ use prin_term::Entry;
 use std::sync::Arc;
 
 /// A guarded object: its number, its content, and its access list in order.
-#[derive(Debug, Drop)]
+#[derive(Drop)]
 pub struct ObjectPlan {
     pub number: u32,
     pub content: Vec<u8>,

@@ -9,7 +9,7 @@ use crate::object_plan::ObjectPlan;
 use std::marker::Model;
 
 /// Objects with numbers of their own. A contract sees their list, ascending by number.
-#[derive(Debug, Drop)]
+#[derive(Drop)]
 pub struct ObjectPlans {
     plans: Vec<ObjectPlan>,
 }

@@ -6,7 +6,7 @@ ghost use Rattle.node_file.specs.RelayFile.{relay_kind};
 use file_lines::is_word;
 
 // What a line is about.
-#[derive(Clone, Copy, Debug)]
+#[derive(Clone, Copy)]
 pub(crate) enum RelayKind {
     Name,
     Role,

@@ -4,8 +4,8 @@ ghost use Rattle.std.specs.Prelude.{◌≡◌, map, IfOk};
 ghost use Rattle.std.specs.List.Sorted.{IsStrictlyIncreasing};
 ghost use Rattle.keyed_seal.specs.Keys.{IsKeyTable};
 ghost use Rattle.object_core.specs.Shelving.{HaveOwnNumbers, fixed_of, numbers_of as object_numbers};
-ghost use Rattle.agent_core.specs.Alone.{plans_in};
-ghost use Rattle.agent_core.specs.Opened.{new_shard};
+ghost use Rattle.shard_core.specs.Alone.{plans_in};
+ghost use Rattle.shard_core.specs.Opened.{new_shard};
 ghost use Rattle.agent_core.specs.Plans.{AreShards};
 ghost use Rattle.prin_term.specs.View.{grant};
 ghost use Rattle.node_file.specs.declared.opening.Opening as code;
@@ -15,11 +15,11 @@ ghost use Rattle.node_file.specs.OpeningView.{Represents};
 ghost use Rattle.node_open.specs.Cells.{AllFit, AreCellsOf, cells_of, its_plans, new_object, numbers_of};
 ghost use Rattle.node_file.specs.Plans.{AreByNumber};
 
-use agent_core::{Shard, open_shards};
 use keyed_seal::KeyTable;
 use node_file::{ObjectPlans, Opening};
 use object_core::Object;
 use prin_term::Entry;
+use shard_core::{Shard, open_shards};
 use std::alloc::{AllocError, Global};
 use std::sync::Arc;
 

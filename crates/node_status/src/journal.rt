@@ -3,7 +3,7 @@
 use std::fmt;
 
 /// Whose journal it is.
-#[derive(Clone, Copy, Debug, PartialEq, Eq)]
+#[derive(Clone, Copy, PartialEq, Eq)]
 pub enum Journal {
     Shard(u32),
     Object(u32),

@@ -6,15 +6,16 @@ ghost use Rattle.node_status.specs.Words.{level_of, word_of};
 use crate::asked::{operation_of, right_word_of};
 use crate::journal::Journal;
 use crate::reply::{ReplyFront, link_word_of, names_request};
-use jiff::Timestamp;
+use jiff::civil::DateTime;
 use object_core::right_of;
 use std::fmt;
 use std::net::SocketAddr;
+use std::time::Duration;
 use system_hub::Breakage;
 use taos_wire::{ReplyHead, Request};
 
 /// What a notice is of.
-#[derive(Clone, Copy, Debug, PartialEq, Eq)]
+#[derive(Clone, Copy, PartialEq, Eq)]
 pub enum Happening {
     /// A reply that is no grant.
     Replied(ReplyFront),
@@ -49,20 +50,22 @@ pub struct Notice {
     pub request: Option<Request>,
 }
 
+// The date and time that is so many seconds after the begin of 1970, to the end of the year 9999.
+fn moment_of(seconds: u64) -> Option<DateTime> {
+    let begin = DateTime::new(1970, 1, 1, 0, 0, 0, 0).ok()?;
+    begin.checked_add(Duration::from_secs(seconds)).ok()
+}
+
 // A time as an instant of RFC 3339, or `-`.
 #[derive(Clone, Copy)]
 pub(crate) struct When(pub Option<u64>);
 
 impl fmt::Display for When {
     fn fmt<W: fmt::Write>(&self, f: &mut fmt::Formatter<W>) -> fmt::Result {
-        if let Some(seconds) = self.0 {
-            if let Ok(seconds) = i64::try_from(seconds) {
-                if let Ok(time) = Timestamp::from_second(seconds) {
-                    return write!(f, "{time}");
-                }
-            }
-        }
-        f.write_str("-")
+        let Some(moment) = self.0.and_then(moment_of) else {
+            return f.write_str("-");
+        };
+        write!(f, "{moment}Z")
     }
 }
 
@@ -198,7 +201,7 @@ impl fmt::Display for Notice {
 }
 
 /// The line that counts the notices for which there was no line.
-#[derive(Clone, Copy, Debug, PartialEq, Eq)]
+#[derive(Clone, Copy, PartialEq, Eq)]
 pub struct LeftOut {
     pub seconds: Option<u64>,
     pub count: u64,

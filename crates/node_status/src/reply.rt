@@ -50,7 +50,7 @@ const NOT_HELD: u8 = 13;
 const WITHDRAWN_FULL: u8 = 14;
 
 /// What the front of a reply says.
-#[derive(Clone, Copy, Debug, PartialEq, Eq)]
+#[derive(Clone, Copy, PartialEq, Eq)]
 pub struct ReplyFront {
     /// With the shard and the place of a grant, too.
     pub head: ReplyHead,

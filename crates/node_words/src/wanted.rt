@@ -13,7 +13,7 @@ pub const MAX_FRAMES: u64 = 1_000_000;
 pub const LANE_CONNECTIONS: u64 = 1;
 
 /// What a certificate is to say, as the words have it.
-#[derive(Clone, Copy, Debug, PartialEq, Eq)]
+#[derive(Clone, Copy, PartialEq, Eq)]
 pub struct Mint<'a> {
     pub issuer: u32,
     pub serial: u64,
@@ -29,7 +29,7 @@ pub struct Mint<'a> {
 }
 
 /// The numbers of the domains of a route, in order: one of them at least.
-#[derive(Clone, Copy, Debug)]
+#[derive(Clone, Copy)]
 pub struct Route {
     numbers: [u32; MAX_ROUTE],
     count: usize,
@@ -82,7 +82,7 @@ impl Route {
 }
 
 /// Where a certificate is to go.
-#[derive(Clone, Copy, Debug)]
+#[derive(Clone, Copy)]
 pub struct Path {
     /// The node that it is for.
     pub node: u32,
@@ -91,7 +91,7 @@ pub struct Path {
 }
 
 /// The load that is to be made and served.
-#[derive(Clone, Copy, Debug, PartialEq, Eq)]
+#[derive(Clone, Copy, PartialEq, Eq)]
 pub struct Drill {
     /// The number that it is made from.
     pub seed: u64,
@@ -100,7 +100,7 @@ pub struct Drill {
 }
 
 /// A command with its options.
-#[derive(Clone, Copy, Debug)]
+#[derive(Clone, Copy)]
 pub enum Wanted<'a> {
     /// Serve one connection, of at most so many frames, with room for so many lemmas; where `pulls` is
     /// set, with certificates that are fetched.

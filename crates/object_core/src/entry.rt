@@ -5,7 +5,7 @@ use crate::ruling::Ruling;
 use std::sync::Arc;
 
 /// An operation with its ruling, and the Ask by which it was ruled: its shard and its place there.
-#[derive(Debug, Drop)]
+#[derive(Drop)]
 pub struct ObjectEntry {
     pub shard: u32,
     pub place: u64,

@@ -4,7 +4,7 @@ use prin_term::Entry;
 use std::sync::Arc;
 
 /// What an object is opened with, and the limit of its journal.
-#[derive(Debug, Drop)]
+#[derive(Drop)]
 pub(crate) struct Fixed {
     pub number: u32,
     pub content: Vec<u8>,

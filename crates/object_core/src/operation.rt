@@ -20,7 +20,7 @@ const MANAGE: u8 = 8;
 pub const LAST_KIND: u8 = 8;
 
 /// What is asked of an object, or at it of the node.
-#[derive(Debug, Drop)]
+#[derive(Drop)]
 pub enum Op {
     /// Gives the content.
     Read,

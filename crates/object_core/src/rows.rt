@@ -8,7 +8,7 @@ use crate::object::Object;
 use std::alloc::{AllocError, Global};
 
 /// The number of an object, and its place in the list of all.
-#[derive(Clone, Copy, Debug)]
+#[derive(Clone, Copy)]
 pub struct Row {
     pub number: u32,
     pub place: usize,

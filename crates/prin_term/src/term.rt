@@ -1,5 +1,5 @@
 /// A principal: a key, a name, or a compound of others.
-#[derive(Debug, Drop)]
+#[derive(Drop)]
 pub enum Term {
     Key(u32),
     Name(u32),
@@ -12,21 +12,21 @@ pub enum Term {
 }
 
 /// `left => right`: the left speaks for the right.
-#[derive(Debug, Drop)]
+#[derive(Drop)]
 pub struct Statement {
     pub left: Term,
     pub right: Term,
 }
 
 /// An entry of an access list. Rights are the sum of 1 read, 2 write, 4 control and 8 manage.
-#[derive(Debug, Drop)]
+#[derive(Drop)]
 pub struct Entry {
     pub rights: u8,
     pub who: Term,
 }
 
 /// The key of a name.
-#[derive(Clone, Copy, Debug, PartialEq, Eq)]
+#[derive(Clone, Copy, PartialEq, Eq)]
 pub struct Anchor {
     pub key: u32,
     pub name: u32,

@@ -9,7 +9,7 @@ use prin_term::{MAX_DEPTH, Term};
 use std::alloc::{AllocError, Global};
 
 /// A compound of two.
-#[derive(Clone, Copy, Debug)]
+#[derive(Clone, Copy)]
 pub enum Compound {
     And,
     Quote,

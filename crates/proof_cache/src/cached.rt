@@ -11,7 +11,7 @@ use taos_calculus::Proof;
 
 /// A proof that the subject speaks for someone, with the certificates that it cites, in the order
 /// of its numbers. Its lease is the one that `lease_of` gives of these.
-#[derive(Debug, Drop)]
+#[derive(Drop)]
 pub struct Cached {
     pub subject: Term,
     pub who: Term,

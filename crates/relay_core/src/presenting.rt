@@ -22,7 +22,7 @@ use stmt_codec::Cert;
 pub const BAD_RESEAL: u8 = 6;
 
 /// Why a certificate that is presented comes to none.
-#[derive(Clone, Copy, Debug, PartialEq, Eq)]
+#[derive(Clone, Copy, PartialEq, Eq)]
 pub enum Unpresented {
     /// The bytes come to none; the code says why.
     Refused { code: u8 },

@@ -17,7 +17,7 @@ use stmt_codec::CertBody;
 
 /// The keys of the issuers that a relay knows, and those that it shares with the nodes that it
 /// serves.
-#[derive(Debug, Drop)]
+#[derive(Drop)]
 pub struct RelayTable {
     pub issuers: KeyTable,
     pub nodes: KeyTable,

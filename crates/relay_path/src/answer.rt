@@ -1,7 +1,7 @@
 //! Whom a domain passes a certificate to, and what is answered.
 
 /// Whom a domain passes a certificate to.
-#[derive(Clone, Copy, Debug, PartialEq, Eq)]
+#[derive(Clone, Copy, PartialEq, Eq)]
 pub enum Target {
     /// A node of the domain.
     Node(u32),
@@ -10,7 +10,7 @@ pub enum Target {
 }
 
 /// What a domain answers.
-#[derive(Clone, Copy, Debug, PartialEq, Eq)]
+#[derive(Clone, Copy, PartialEq, Eq)]
 pub enum HopAnswer {
     /// The new certificate is there.
     Passed,
@@ -21,7 +21,7 @@ pub enum HopAnswer {
 }
 
 /// How a route ended.
-#[derive(Clone, Copy, Debug, PartialEq, Eq)]
+#[derive(Clone, Copy, PartialEq, Eq)]
 pub enum Along {
     /// The lines are there.
     Done,

@@ -22,7 +22,7 @@ use std::alloc::Global;
 use stmt_codec::CertBody;
 
 // Why a certificate does not open.
-#[derive(Clone, Copy, Debug)]
+#[derive(Clone, Copy)]
 pub(crate) enum HopFault {
     // For the reason that the code names.
     Refused { code: u8 },

@@ -6,7 +6,7 @@ ghost use Rattle.relay_path.specs.PathFile.{path_kind};
 use file_lines::is_word;
 
 // What a line is about.
-#[derive(Clone, Copy, Debug)]
+#[derive(Clone, Copy)]
 pub(crate) enum PathKind {
     Domain,
     Issuer,

@@ -1,7 +1,7 @@
 //! How the handling of a request ends.
 
 /// How the handling of a request ended.
-#[derive(Clone, Copy, Debug, PartialEq, Eq)]
+#[derive(Clone, Copy, PartialEq, Eq)]
 pub enum Handled {
     /// The reply was left.
     Replied,

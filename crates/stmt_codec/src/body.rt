@@ -12,7 +12,7 @@ use prin_term::{Statement, Term};
 /// What the key `issuer` says, alone or quoting another principal. It holds from `from` on and ends at
 /// `until`, moments in the unit of the service's clock; `serial` tells bodies apart that are
 /// otherwise equal.
-#[derive(Debug, Drop)]
+#[derive(Drop)]
 pub struct CertBody {
     pub issuer: u32,
     pub quoted: Option<Term>,

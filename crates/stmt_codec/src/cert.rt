@@ -19,7 +19,7 @@ use sha2::{Digest, Sha256};
 use std::alloc::{AllocError, Global};
 
 /// A body within the limits. Two certificates are equal where their bodies are.
-#[derive(Debug, Drop)]
+#[derive(Drop)]
 pub struct Cert {
     pub body: CertBody,
     /// The key of the issuer, or that key quoting the body's quoted term.

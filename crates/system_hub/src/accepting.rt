@@ -2,15 +2,11 @@
 
 ghost use Rattle.std.specs.Prelude.{◌≡◌, ◌≤◌, ◌<◌, length};
 
-use crate::breakage::Breakage;
 use crate::cause::{Cause, cause_of};
 use crate::limits::GUESTS;
 use crate::switch::Switch;
-use crate::tokens::{Socket, token_of};
 use crate::watch::Watch;
-use frame_hub::MAX_CLIENTS;
-use mio::Interest;
-use mio::net::{TcpListener, TcpStream};
+use mio::net::TcpListener;
 use std::net;
 use std::net::{Net, SocketAddr};
 use std::time::Clock;
@@ -39,29 +35,6 @@ impl<S: Net<Listener = net::TcpListener, Stream = net::TcpStream> + Clock, N: Wa
         self.entrances.iter().all(|entrance| entrance.has_ended)
     }
 
-    // A connection becomes a client, where the system and the hub have room for it.
-    fn admit(&mut self, mut stream: TcpStream, peer: SocketAddr) {
-        let _ = stream.set_nodelay(true);
-        let Some(number) = self.hall.hub.opened() else {
-            self.hall.watch.broke(peer, Breakage::TurnedAway);
-            return;
-        };
-        let seat = self.hall.seat_of(number);
-        if seat >= MAX_CLIENTS as usize {
-            self.hall.forget(number);
-            return;
-        }
-        let token = token_of(Socket::Client { seat });
-        let interest = Interest::READABLE | Interest::WRITABLE;
-        let registered = self.poll.registry().register(&mut stream, token, interest);
-        if registered.is_err() {
-            self.hall.watch.broke(peer, Breakage::TurnedAway);
-            self.hall.forget(number);
-            return;
-        }
-        self.hall.seat(number, stream, peer);
-    }
-
     // Takes a connection of a listener. Whether there may be more.
     fn accept_once(&mut self, place: usize) -> bool {
         let has_seat = self.hall.has_seat();
@@ -77,7 +50,8 @@ impl<S: Net<Listener = net::TcpListener, Stream = net::TcpStream> + Clock, N: Wa
         }
         match entrance.listener.accept() {
             Ok((stream, peer)) => {
-                self.admit(stream, peer);
+                let _ = stream.set_nodelay(true);
+                self.hall.admit(stream, peer, self.poll.registry());
                 true
             }
             Err(error) => {

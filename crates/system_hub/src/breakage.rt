@@ -4,7 +4,7 @@ ghost use Rattle.std.specs.Prelude.{◌≡◌};
 ghost use Rattle.system_hub.specs.Causes.{cause_word};
 
 /// Why a client was let go otherwise than in order.
-#[derive(Clone, Copy, Debug, PartialEq, Eq)]
+#[derive(Clone, Copy, PartialEq, Eq)]
 pub enum Breakage {
     /// Between two frames, or before the first, no byte came in time, or no frame that was sealed
     /// right.

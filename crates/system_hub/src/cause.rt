@@ -23,7 +23,7 @@ const NO_BUFFERS: i32 = 105;
 const HOST_DOWN: i32 = 112;
 
 /// Why a listener gave no connection.
-#[derive(Clone, Copy, Debug, PartialEq, Eq)]
+#[derive(Clone, Copy, PartialEq, Eq)]
 pub enum Cause {
     /// None waits.
     Nobody,

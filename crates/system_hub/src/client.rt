@@ -1,24 +1,19 @@
 //! A client's socket, and how its stream stands.
 
-ghost use Rattle.std.specs.Prelude.{◌≡◌, ◌≤◌, ◌<◌, length};
+ghost use Rattle.std.specs.Prelude.{◌≡◌, ◌≤◌, if◌then◌else◌, true, false, IfSome};
+ghost use Rattle.system_hub.specs.declared.client.Moved.TheVariants.{More, Enough, Left};
+ghost use Rattle.frame_hub.specs.Kept.{IsHere};
+ghost use Rattle.system_hub.specs.Floors.{IsDoneWith, IsMoved};
 
 use crate::breakage::Breakage;
-use crate::limits::{GUESTS, LEAVINGS};
 use crate::pace::Pace;
+use crate::parting::Parting;
 use crate::patience::Patience;
 use frame_hub::{Hub, MAX_KEPT};
 use mio::net::TcpStream;
 use std::io::{ErrorKind, Read, Write};
-use std::net::{Shutdown, SocketAddr};
+use std::net::SocketAddr;
 use std::time::Instant;
-
-/// A stream that was shut, and is read on by nobody.
-#[derive(Clone, Copy)]
-pub(crate) struct Parting {
-    pub until: Instant,
-    // How many bytes may come yet.
-    left: usize,
-}
 
 /// A client's socket, and how its stream stands.
 #[derive(Drop)]
@@ -31,181 +26,309 @@ pub(crate) struct Client {
     pub going: Pace,
     /// Until when a frame of it is to come that is sealed right.
     pub trust: Pace,
-    /// How many of its frames lanes have.
-    pub under_way: u32,
     /// There may be bytes for which the hub had no room.
     pub is_hungry: bool,
-    /// Its stream was shut, and what it still sends goes nowhere.
-    pub parting: Option<Parting>,
     /// Why it is let go, where that is not in order.
     pub why: Option<Breakage>,
 }
 
+/// What became of a read or a write of a client.
+#[derive(Clone, Copy, PartialEq, Eq)]
+pub(crate) enum Moved {
+    /// There may be more to do now.
+    More,
+    /// There is nothing more to do now.
+    Enough,
+    /// The client has its seat no more.
+    Left,
+}
+
+impl Moved {
+    // Nothing more to do, of a client that keeps its seat or not.
+    fn none(stays: bool) -> Moved
+        ensures { result ≡ (if stays then Enough else Left) }
+    {
+        match stays {
+            true => Moved::Enough,
+            false => Moved::Left,
+        }
+    }
+
+    // Perhaps more to do.
+    fn some(stays: bool) -> Moved
+        ensures { result ≡ (if stays then More else Left) }
+    {
+        match stays {
+            true => Moved::More,
+            false => Moved::Left,
+        }
+    }
+}
+
 impl Client {
+    /// One that has come now, by this number.
+    pub(crate) fn new(
+        number: u64,
+        stream: TcpStream,
+        peer: SocketAddr,
+        now: Instant,
+        patience: &Patience,
+    ) -> Client
+        ensures { result.number ≡ number }
+    {
+        let mut trust = Pace::new();
+        trust.wait(now, patience.idle);
+        Client {
+            number,
+            stream,
+            peer,
+            coming: Pace::with_first(now, patience.first),
+            going: Pace::new(),
+            trust,
+            is_hungry: false,
+            why: None,
+        }
+    }
+
     // The first reason stays.
-    pub(crate) fn broke(&mut self, why: Breakage) {
+    pub(crate) fn broke(&mut self, why: Breakage)
+        ensures { self.new.number ≡ self.old.number }
+    {
         self.why = self.why.or(Some(why));
     }
 
     // It has failed, by the hub too.
-    pub(crate) fn fail(&mut self, hub: &mut Hub, why: Breakage) {
+    pub(crate) fn fail(&mut self, hub: &mut Hub, why: Breakage)
+        ensures number { self.new.number ≡ self.old.number }
+        ensures left { IsDoneWith self.old.number hub.old hub.new false }
+    {
+        let number = self.number;
         self.broke(why);
-        if hub.is_here(self.number) {
-            hub.failed(self.number);
+        if hub.is_here(number) {
+            hub.failed(number);
         }
     }
 
-    // It said its last.
-    fn end(&mut self, hub: &mut Hub) {
+    // It said its last. Whether it keeps its seat.
+    fn end(&mut self, hub: &mut Hub) -> bool
+        ensures number { self.new.number ≡ self.old.number }
+        ensures stays { IsDoneWith self.old.number hub.old hub.new result }
+    {
+        let number = self.number;
         if !self.coming.is_between() {
             self.broke(Breakage::Cut);
         }
-        if hub.is_open(self.number) {
-            hub.ended(self.number);
+        if !hub.is_open(number) {
+            return hub.is_here(number);
         }
+        hub.ended(number)
     }
 
-    // These bytes came.
-    fn take(&mut self, hub: &mut Hub, bytes: &[u8]) {
+    // These bytes came. Whether it keeps its seat.
+    fn take(&mut self, hub: &mut Hub, bytes: &[u8]) -> bool
+        ensures number { self.new.number ≡ self.old.number }
+        ensures stays { IsDoneWith self.old.number hub.old hub.new result }
+    {
+        let number = self.number;
         self.coming.pass(bytes);
         if self.coming.is_long() {
             self.broke(Breakage::Long);
         }
-        if hub.is_open(self.number) && bytes.len() <= hub.room(self.number) {
-            if hub.received(self.number, bytes).is_err() {
+        if !hub.is_open(number) || bytes.len() > hub.room(number) {
+            return hub.is_here(number);
+        }
+        match hub.received(number, bytes) {
+            Ok(stays) => stays,
+            Err(_) => {
                 self.broke(Breakage::GivenUp);
+                false
             }
         }
     }
 
-    // One read, of as many bytes as there is room for. Whether there may be more to read: behind fewer
-    // bytes than there was room for there is nothing, unless the stream has ended.
-    fn hear_once(&mut self, hub: &mut Hub, piece: &mut [u8], may_end: bool) -> bool {
-        let room = match hub.is_open(self.number) && !self.coming.is_long() {
-            true => hub.room(self.number).min(piece.len()),
-            false => return false,
+    // How many bytes may be read of it now, and no more than so many. None where nothing is read of it
+    // any more.
+    fn room(&self, hub: &Hub, most: usize) -> Option<usize>
+        ensures few { IfSome result (λ room. room ≤ most) }
+        ensures here { IfSome result (λ room. IsHere hub.now self.now.number) }
+    {
+        match hub.is_open(self.number) && !self.coming.is_long() {
+            true => Some(hub.room(self.number).min(most)),
+            false => None,
+        }
+    }
+
+    // One read, of as many bytes as there is room for. Behind fewer bytes than there was room for there
+    // is nothing, unless the stream has ended.
+    fn hear_once(&mut self, hub: &mut Hub, piece: &mut [u8], may_end: bool) -> Moved
+        ensures number { self.new.number ≡ self.old.number }
+        ensures moved { IsMoved self.old.number hub.old hub.new result }
+    {
+        let Some(room) = self.room(hub, piece.len()) else {
+            return Moved::none(hub.is_here(self.number));
         };
         if room == 0 {
             self.is_hungry = true;
-            return false;
+            return Moved::Enough;
         }
         match self.stream.read(&mut piece[..room]) {
-            Ok(0) => {
-                self.end(hub);
-                false
-            }
-            Ok(count) => {
-                self.take(hub, &piece[..count]);
-                may_end || count == room
-            }
+            Ok(0) => Moved::none(self.end(hub)),
+            Ok(count) => match may_end || count == room {
+                true => Moved::some(self.take(hub, &piece[..count])),
+                false => Moved::none(self.take(hub, &piece[..count])),
+            },
             Err(error) => match error.kind() {
-                ErrorKind::WouldBlock => false,
-                ErrorKind::Interrupted => true,
+                ErrorKind::WouldBlock => Moved::Enough,
+                ErrorKind::Interrupted => Moved::More,
                 _ => {
                     self.fail(hub, Breakage::Lost);
-                    false
+                    Moved::Left
                 }
             },
         }
     }
 
     /// Reads what there is, as far as the hub has room. `may_end` says that the stream may be at its
-    /// end.
-    pub(crate) fn hear(&mut self, hub: &mut Hub, piece: &mut [u8], may_end: bool) {
+    /// end. Whether the client keeps its seat.
+    pub(crate) fn hear(&mut self, hub: &mut Hub, piece: &mut [u8], may_end: bool) -> bool
+        ensures number { self.new.number ≡ self.old.number }
+        ensures stays { IsDoneWith self.old.number hub.old hub.new result }
+    {
         self.is_hungry = false;
         for _ in 0..=MAX_KEPT {
-            if !self.hear_once(hub, piece, may_end) {
-                break;
+            match self.hear_once(hub, piece, may_end) {
+                Moved::More => {}
+                Moved::Enough => return true,
+                Moved::Left => return false,
             }
         }
+        hub.is_here(self.number)
     }
 
     /// Where a frame has begun, it is to be whole in time.
-    pub(crate) fn wait(&mut self, now: Instant, patience: &Patience) {
+    pub(crate) fn wait(&mut self, now: Instant, patience: &Patience)
+        ensures { self.new.number ≡ self.old.number }
+    {
         if !self.coming.is_between() && !self.is_hungry {
             self.coming.wait(now, patience.frame);
         }
     }
 
-    // One read of what goes nowhere. Whether there may be more now; none where nothing more comes, or
-    // too much did.
-    fn drain_once(&mut self, piece: &mut [u8]) -> Option<bool> {
-        let parting = self.parting.as_mut()?;
-        match self.stream.read(piece) {
-            Ok(0) => None,
-            Ok(count) => {
-                parting.left = parting.left.checked_sub(count)?;
-                Some(true)
-            }
-            Err(error) => match error.kind() {
-                ErrorKind::WouldBlock => Some(false),
-                ErrorKind::Interrupted => Some(true),
-                _ => None,
-            },
-        }
-    }
-
-    /// Reads some of what goes nowhere. Whether it may be waited for more.
-    pub(crate) fn drain(&mut self, piece: &mut [u8]) -> bool {
-        for _ in 0..GUESTS {
-            match self.drain_once(piece) {
-                Some(true) => {}
-                Some(false) => return true,
-                None => return false,
-            }
-        }
-        true
-    }
-
-    // One write. Whether more may be written now.
-    fn write_once(&mut self, hub: &mut Hub) -> bool {
+    // One write.
+    fn write_once(&mut self, hub: &mut Hub) -> Moved
+        ensures number { self.new.number ≡ self.old.number }
+        ensures moved { IsMoved self.old.number hub.old hub.new result }
+    {
         if !hub.is_well(self.number) {
-            return false;
+            return Moved::none(hub.is_here(self.number));
         }
         let left = hub.to_write(self.number);
         if left.is_empty() {
-            return false;
+            return Moved::Enough;
         }
         match self.stream.write(left) {
+            Ok(0) => Moved::Enough,
             Ok(count) => {
                 self.going.pass(&left[..count]);
-                hub.wrote(self.number, count);
-                count > 0
+                Moved::some(hub.wrote(self.number, count))
             }
             Err(error) => match error.kind() {
-                ErrorKind::WouldBlock => false,
-                ErrorKind::Interrupted => true,
+                ErrorKind::WouldBlock => Moved::Enough,
+                ErrorKind::Interrupted => Moved::More,
                 _ => {
                     self.fail(hub, Breakage::Lost);
-                    false
+                    Moved::Left
                 }
             },
         }
     }
 
-    /// Writes what it takes of its replies.
-    pub(crate) fn write(&mut self, hub: &mut Hub, now: Instant, patience: &Patience) {
+    // Writes what it takes of its replies. Whether it keeps its seat.
+    fn write_all(&mut self, hub: &mut Hub) -> bool
+        ensures number { self.new.number ≡ self.old.number }
+        ensures stays { IsDoneWith self.old.number hub.old hub.new result }
+    {
         for _ in 0..u64::MAX {
-            if !self.write_once(hub) {
-                break;
+            match self.write_once(hub) {
+                Moved::More => {}
+                Moved::Enough => return true,
+                Moved::Left => return false,
             }
+        }
+        hub.is_here(self.number)
+    }
+
+    /// Writes what it takes of its replies: what is left is to leave in time. Whether the client keeps
+    /// its seat.
+    pub(crate) fn write(&mut self, hub: &mut Hub, now: Instant, patience: &Patience) -> bool
+        ensures number { self.new.number ≡ self.old.number }
+        ensures stays { IsDoneWith self.old.number hub.old hub.new result }
+    {
+        if !self.write_all(hub) {
+            return false;
         }
         if self.has_left(hub) {
             self.going.wait(now, patience.take);
         }
+        true
     }
 
-    /// Whether bytes are left to write to it.
-    pub(crate) fn has_left(&self, hub: &Hub) -> bool {
+    // Whether bytes are left to write to it.
+    fn has_left(&self, hub: &Hub) -> bool {
         hub.is_well(self.number) && !hub.to_write(self.number).is_empty()
     }
 
-    /// Whether it waits for nothing: no frame of it is here, and no reply is left to write.
-    pub(crate) fn is_quiet(&self, hub: &Hub) -> bool {
-        self.under_way == 0
-            && !self.has_left(hub)
-            && hub.is_open(self.number)
-            && hub.room(self.number) == MAX_KEPT
+    /// What a reply shows of it: that its frame was sealed right, so that it may stay, or, where none was
+    /// for too long, why it may not.
+    pub(crate) fn judge(
+        &mut self,
+        is_sealed: bool,
+        now: Instant,
+        patience: &Patience,
+    ) -> Option<Breakage>
+        ensures { self.new.number ≡ self.old.number }
+    {
+        if is_sealed {
+            self.trust.rest();
+        }
+        self.trust.wait(now, patience.idle);
+        match self.trust.is_late(now) {
+            true => Some(Breakage::Silent),
+            false => None,
+        }
+    }
+
+    /// Why it is late now, if it is.
+    pub(crate) fn lateness(
+        &mut self,
+        hub: &Hub,
+        now: Instant,
+        patience: &Patience,
+    ) -> Option<Breakage>
+        ensures { self.new.number ≡ self.old.number }
+    {
+        if self.going.is_late(now) {
+            return Some(Breakage::Untaken);
+        }
+        let is_between = self.coming.is_between();
+        if is_between && !hub.is_quiet(self.number) {
+            self.coming.rest();
+            return None;
+        }
+        if is_between {
+            self.coming.wait(now, patience.idle);
+            self.trust.wait(now, patience.idle);
+            if self.trust.is_late(now) {
+                return Some(Breakage::Silent);
+            }
+        }
+        if self.is_hungry || !self.coming.is_late(now) {
+            return None;
+        }
+        match is_between {
+            true => Some(Breakage::Silent),
+            false => Some(Breakage::Slow),
+        }
     }
 
     /// Whether it may have sent what nobody read: not where its stream was read to its end, or failed.
@@ -216,10 +339,8 @@ impl Client {
         }
     }
 
-    /// Shuts its stream: it is read on until this moment, by nobody.
-    pub(crate) fn part(&mut self, until: Instant) {
-        let _ = self.stream.shutdown(Shutdown::Write);
-        let left = LEAVINGS;
-        self.parting = Some(Parting { until, left });
+    /// Its stream is shut, and read on until this moment, by nobody.
+    pub(crate) fn part(self, until: Instant) -> Parting {
+        Parting::of(self.stream, self.peer, self.why, until)
     }
 }

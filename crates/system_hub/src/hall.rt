@@ -1,25 +1,32 @@
-//! All clients, and the hub that they are served by.
+//! All clients: those who sit, and those whose streams part.
 
-ghost use Rattle.std.specs.Prelude.{◌≡◌, ◌≤◌, ◌<◌, length};
+ghost use Rattle.std.specs.Prelude.{◌≡◌, ◌≤◌, length, vec_capacity};
+ghost use Rattle.frame_hub.specs.Seating.{AreSettled, IsEmpty};
+ghost use Rattle.system_hub.specs.Floors.{HasHistory};
+ghost use Rattle.frame_link.specs.declared.service.TheConstants.{MAX_PAYLOAD};
 
 use crate::breakage::Breakage;
 use crate::client::Client;
-use crate::pace::Pace;
+use crate::floor::{Floor, Replied};
+use crate::parting::Parting;
 use crate::patience::Patience;
 use crate::watch::Watch;
-use frame_hub::{Answer, Hub, MAX_AT_LANE};
+use frame_hub::{Hub, MAX_AT_LANE};
+use frame_link::MAX_PAYLOAD;
+use mio::Registry;
 use mio::net::TcpStream;
 use std::alloc::{AllocError, Global};
 use std::net::SocketAddr;
 use std::time::Instant;
 
-/// All clients, and the hub that they are served by.
+/// All clients: those who sit, and those whose streams part.
 #[derive(Drop)]
 pub(crate) struct Hall<N> {
-    pub hub: Hub,
-    pub clients: Vec<Option<Client>>,
-    /// How many of them there are.
-    pub count: usize,
+    pub floor: Floor,
+    // At the place of the seat that its client had.
+    partings: Vec<Option<Parting>>,
+    // How many of them there are.
+    parting: usize,
     pub patience: Patience,
     pub watch: N,
     pub now: Instant,
@@ -31,13 +38,13 @@ pub(crate) struct Hall<N> {
     pub is_scarce_told: bool,
 }
 
-// So many seats that nobody has.
-fn seats_of(alloc: Global, count: u32) -> Result<Vec<Option<Client>>, AllocError> {
-    let mut seats = Vec::with_capacity(alloc, count as usize)?;
+// Places for so many streams that part.
+fn places_of(alloc: Global, count: u32) -> Result<Vec<Option<Parting>>, AllocError> {
+    let mut places = Vec::with_capacity(alloc, count as usize)?;
     for _ in 0..count {
-        seats.push(None)?;
+        places.push(None)?;
     }
-    Ok(seats)
+    Ok(places)
 }
 
 impl<N: Watch + Drop> Hall<N> {
@@ -48,11 +55,16 @@ impl<N: Watch + Drop> Hall<N> {
         patience: Patience,
         watch: N,
         now: Instant,
-    ) -> Result<Hall<N>, AllocError> {
+    ) -> Result<Hall<N>, AllocError>
+        requires history { ∥ HasHistory hub ∥₁ }
+        requires settled { AreSettled hub }
+        requires empty { IsEmpty hub }
+        requires size { length hub.seats ≡ seats }
+    {
         Ok(Hall {
-            hub,
-            clients: seats_of(alloc, seats)?,
-            count: 0,
+            floor: Floor::new(alloc, hub, seats)?,
+            partings: places_of(alloc, seats)?,
+            parting: 0,
             patience,
             watch,
             now,
@@ -64,201 +76,155 @@ impl<N: Watch + Drop> Hall<N> {
 }
 
 impl<N: Watch> Hall<N> {
-    /// Whether there is a seat for one client more.
+    /// Whether there is a seat for one client more. A stream that parts counts as a client, since it has
+    /// a descriptor.
     pub(crate) fn has_seat(&self) -> bool {
-        self.count < self.clients.len()
+        self.parting < self.floor.free_seats()
     }
 
-    /// The seat of a client.
-    pub(crate) fn seat_of(&self, number: u64) -> usize {
-        let seats = self.clients.len() as u64;
-        number.checked_rem(seats).unwrap_or(0) as usize
+    /// Whether nobody sits, and no stream parts.
+    pub(crate) fn is_empty(&self) -> bool {
+        self.floor.is_empty() && self.partings.iter().all(|place| place.is_none())
     }
 
-    /// A client has come, by this number. What was in its seat is gone.
-    pub(crate) fn seat(&mut self, number: u64, stream: TcpStream, peer: SocketAddr) {
-        let mut trust = Pace::new();
-        trust.wait(self.now, self.patience.idle);
-        let client = Client {
-            number,
-            stream,
-            peer,
-            coming: Pace::with_first(self.now, self.patience.first),
-            going: Pace::new(),
-            trust,
-            under_way: 0,
-            is_hungry: false,
-            parting: None,
-            why: None,
-        };
-        let seat = self.seat_of(number);
-        if let Some(place) = self.clients.get_mut(seat) {
-            *place = Some(client);
-            self.count = self.count.saturating_add(1);
-            self.is_scarce_told = false;
-            self.watch.came();
-        }
-    }
-
-    /// Reads what a client sent, and looks at it.
-    pub(crate) fn hear(&mut self, seat: usize, piece: &mut [u8], may_end: bool) {
-        let Some(Some(client)) = self.clients.get_mut(seat) else {
+    /// A connection has come: it is given a seat, and its socket is watched, where that can be.
+    pub(crate) fn admit(&mut self, stream: TcpStream, peer: SocketAddr, registry: &Registry) {
+        let Some(seat) = self.floor.seat(stream, peer, self.now, &self.patience) else {
+            self.watch.broke(peer, Breakage::TurnedAway);
             return;
         };
-        if client.parting.is_some() {
-            if !client.drain(piece) {
-                self.remove(seat);
-            }
+        if !self.floor.watch(seat, registry) {
+            let _ = self.floor.fail(seat, Breakage::TurnedAway);
+            self.watch.broke(peer, Breakage::TurnedAway);
             return;
         }
-        if !self.is_stopping {
-            client.hear(&mut self.hub, piece, may_end);
-            client.wait(self.now, &self.patience);
-        }
+        self.is_scarce_told = false;
+        self.watch.came();
     }
 
-    /// Writes to a client what it takes, and lets it go where it is through.
-    pub(crate) fn settle(&mut self, seat: usize) {
-        let Some(Some(client)) = self.clients.get_mut(seat) else {
-            return;
-        };
-        if client.parting.is_some() {
-            return;
-        }
-        client.write(&mut self.hub, self.now, &self.patience);
-        if self.hub.may_leave(client.number) {
-            self.dismiss(seat);
-        }
-    }
-
-    /// Shuts a client's stream. What it still sends is read for a short time, and goes nowhere.
-    pub(crate) fn part(&mut self, seat: usize) {
-        let until = self.now.checked_add(self.patience.linger);
-        if let Some(Some(client)) = self.clients.get_mut(seat) {
-            client.part(until.unwrap_or(self.now));
-        }
-    }
-
-    /// Lets a client go. One that may have sent what nobody read parts first: closed over that, its
-    /// stream would be reset, and lose replies that it was written.
-    pub(crate) fn dismiss(&mut self, seat: usize) {
-        let Some(Some(client)) = self.clients.get_mut(seat) else {
-            return;
-        };
-        if !client.may_send() {
-            self.remove(seat);
-            return;
-        }
-        if self.hub.is_here(client.number) {
-            self.hub.failed(client.number);
-        }
-        self.part(seat);
-    }
-
-    /// Lets a client go, as it is.
-    pub(crate) fn remove(&mut self, seat: usize) {
-        let Some(place) = self.clients.get_mut(seat) else {
-            return;
-        };
-        let Some(client) = place.take() else {
-            return;
-        };
-        self.count = self.count.saturating_sub(1);
+    // A client is gone, with its descriptor.
+    fn went(&mut self, peer: SocketAddr, why: Option<Breakage>) {
         self.is_full_told = false;
         self.watch.went();
-        if let Some(why) = client.why {
-            self.watch.broke(client.peer, why);
-        }
-        self.forget(client.number);
-    }
-
-    // The hub lets a client go.
-    pub(crate) fn forget(&mut self, number: u64) {
-        if self.hub.is_here(number) {
-            self.hub.failed(number);
-        }
-        if self.hub.may_leave(number) {
-            self.hub.close(number);
+        if let Some(why) = why {
+            self.watch.broke(peer, why);
         }
     }
 
-    // The client by this number, where it is here.
-    fn client_of(&mut self, number: u64) -> Option<&mut Client> {
-        let seat = self.seat_of(number);
-        match self.clients.get_mut(seat) {
-            Some(Some(client)) if client.number == number => Some(client),
-            _ => None,
-        }
-    }
-
-    /// A lane has a frame of a client.
-    pub(crate) fn took(&mut self, number: u64, piece: &mut [u8]) {
-        let Some(client) = self.client_of(number) else {
+    // Who has left its seat goes, or parts where it may have sent what nobody read.
+    fn leave(&mut self, client: Option<Client>) {
+        let Some(client) = client else {
             return;
         };
-        client.under_way = client.under_way.saturating_add(1);
-        if client.is_hungry {
-            self.hear(self.seat_of(number), piece, true);
+        if client.may_send() {
+            self.part(client);
+        } else {
+            self.went(client.peer, client.why);
         }
     }
 
-    // What a reply shows of its client: that its frame was sealed right, so that it may stay, or, where
-    // none was for too long, why it may not.
-    fn judge(&mut self, number: u64, is_sealed: bool) -> Option<Breakage> {
-        let (now, idle) = (self.now, self.patience.idle);
-        let client = self.client_of(number)?;
-        if is_sealed {
-            client.trust.rest();
-        }
-        client.trust.wait(now, idle);
-        match client.trust.is_late(now) {
-            true => Some(Breakage::Silent),
-            false => None,
+    // The stream of who has left its seat is shut. What it still sends is read for a short time, and goes
+    // nowhere. One that parted from the same seat, and does so yet, is gone now.
+    fn part(&mut self, client: Client) {
+        let until = self.now.checked_add(self.patience.linger);
+        let seat = self.floor.seat_of(client.number);
+        self.end_parting(seat);
+        if let Some(place) = self.partings.get_mut(seat) {
+            *place = Some(client.part(until.unwrap_or(self.now)));
+            self.parting = self.parting.saturating_add(1);
         }
     }
 
-    // A client has a reply, or failed by it.
-    fn answered(&mut self, number: u64, why: Option<Breakage>) {
-        if let Some(client) = self.client_of(number) {
-            client.under_way = client.under_way.saturating_sub(1);
-            if let Some(why) = why {
-                client.broke(why);
-            }
+    // A stream parts no more.
+    fn end_parting(&mut self, seat: usize) {
+        let Some(place) = self.partings.get_mut(seat) else {
+            return;
+        };
+        if let Some(parting) = place.take() {
+            self.parting = self.parting.saturating_sub(1);
+            self.went(parting.peer, parting.why);
         }
-        self.settle(self.seat_of(number));
+    }
+
+    // Reads what comes of a stream that parts, and ends it where nothing more may, or its time is over.
+    fn drain(&mut self, seat: usize, piece: &mut [u8]) {
+        let Some(Some(parting)) = self.partings.get_mut(seat) else {
+            return;
+        };
+        if !parting.drain(piece) || parting.is_over(self.now) {
+            self.end_parting(seat);
+        }
+    }
+
+    /// Reads what a client sent, of who sits and of who parts.
+    pub(crate) fn hear(&mut self, seat: usize, piece: &mut [u8], may_end: bool) {
+        self.drain(seat, piece);
+        if !self.is_stopping {
+            let left = self
+                .floor
+                .hear(seat, piece, may_end, self.now, &self.patience);
+            self.leave(left);
+        }
+    }
+
+    /// Writes to a client what it takes.
+    pub(crate) fn settle(&mut self, seat: usize) {
+        let left = self.floor.write(seat, self.now, &self.patience);
+        self.leave(left);
+    }
+
+    /// A client fails, and goes.
+    fn fail(&mut self, seat: usize, why: Breakage) {
+        let left = self.floor.fail(seat, why);
+        self.leave(left);
+    }
+
+    /// Hands a lane its next frame, in `out`. Whether there was one.
+    pub(crate) fn hand(&mut self, lane: usize, out: &mut Vec<u8>, piece: &mut [u8]) -> bool
+        requires { MAX_PAYLOAD ≤ vec_capacity out.old }
+        ensures { MAX_PAYLOAD ≤ vec_capacity out.new }
+    {
+        if !self.floor.has_room(lane) {
+            return false;
+        }
+        let Some((seat, is_hungry)) = self.floor.next(lane, out) else {
+            return false;
+        };
+        if is_hungry {
+            self.hear(seat, piece, true);
+        }
+        true
     }
 
     /// A reply of a lane. Whether it had a frame to answer.
     pub(crate) fn reply(&mut self, lane: usize, payload: &[u8]) -> bool {
-        if !self.hub.has_frame(lane) || payload.len() > u32::MAX as usize {
+        if !self.floor.has_frame(lane) || payload.len() > u32::MAX as usize {
             return false;
         }
         let is_sealed = self.watch.is_sealed(payload);
-        match self.hub.replied(lane, payload) {
-            Answer::For { client } => match self.judge(client, is_sealed) {
-                None => self.answered(client, None),
-                Some(why) => self.fail(self.seat_of(client), why),
-            },
-            Answer::Slow { client } => self.answered(client, Some(Breakage::Untaken)),
-            Answer::NoMemory { client } => self.answered(client, Some(Breakage::GivenUp)),
-            Answer::Nobody => {}
+        match self.floor.replied(lane, payload) {
+            Replied::For { seat } => {
+                let why = self.floor.judge(seat, is_sealed, self.now, &self.patience);
+                match why {
+                    None => self.settle(seat),
+                    Some(why) => self.fail(seat, why),
+                }
+            }
+            Replied::Left { client } => self.leave(Some(client)),
+            Replied::Nobody => {}
         }
         true
     }
 
     // A lane's frame is never answered: its client fails.
     fn give_up(&mut self, lane: usize) {
-        if !self.hub.has_frame(lane) {
+        if !self.floor.has_frame(lane) {
             return;
         }
-        match self.hub.replied(lane, &[]) {
-            Answer::For { client } | Answer::Slow { client } | Answer::NoMemory { client } => {
-                if self.hub.is_here(client) {
-                    self.hub.failed(client);
-                }
-                self.answered(client, Some(Breakage::GivenUp));
-            }
-            Answer::Nobody => {}
+        match self.floor.replied(lane, &[]) {
+            Replied::For { seat } => self.fail(seat, Breakage::GivenUp),
+            Replied::Left { client } => self.leave(Some(client)),
+            Replied::Nobody => {}
         }
     }
 
@@ -266,6 +232,27 @@ impl<N: Watch> Hall<N> {
     pub(crate) fn lane_lost(&mut self, lane: usize) {
         for _ in 0..MAX_AT_LANE {
             self.give_up(lane);
+        }
+    }
+
+    // Looks at a seat: who has it goes where its time is over, or where all stops and it waits for
+    // nothing.
+    fn look_at(&mut self, seat: usize, piece: &mut [u8]) {
+        self.drain(seat, piece);
+        if let Some(why) = self.floor.lateness(seat, self.now, &self.patience) {
+            self.fail(seat, why);
+        }
+        if self.is_stopping {
+            if let Some(client) = self.floor.stop(seat) {
+                self.part(client);
+            }
+        }
+    }
+
+    /// Looks at all clients.
+    pub(crate) fn look(&mut self, piece: &mut [u8]) {
+        for seat in 0..self.floor.seats() {
+            self.look_at(seat, piece);
         }
     }
 }

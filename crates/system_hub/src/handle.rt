@@ -24,7 +24,7 @@ use std::time::{Clock, Instant};
 use std::{io, thread};
 
 /// What is asked of a switch.
-#[derive(Clone, Copy, Debug, PartialEq, Eq)]
+#[derive(Clone, Copy, PartialEq, Eq)]
 pub struct Edge {
     /// How many clients it has at a time.
     pub clients: u32,

@@ -3,7 +3,7 @@
 use std::time::Duration;
 
 /// How long a client may take.
-#[derive(Clone, Copy, Debug, PartialEq, Eq)]
+#[derive(Clone, Copy, PartialEq, Eq)]
 pub struct Patience {
     /// From its begin to the end of its first frame.
     pub first: Duration,

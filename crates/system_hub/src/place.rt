@@ -5,7 +5,7 @@ ghost use Rattle.std.specs.Prelude.{◌≡◌, ◌↔◌, ◌+◌, ◌<◌, ◌�
 use frame_link::MAX_PAYLOAD;
 
 /// How far a stream of frames has come in the frame that it is in.
-#[derive(Clone, Copy, Debug, PartialEq, Eq)]
+#[derive(Clone, Copy, PartialEq, Eq)]
 pub struct Place {
     // The bytes of the length word that came, below four, and what they say so far.
     seen: u32,

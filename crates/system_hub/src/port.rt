@@ -5,6 +5,7 @@ ghost use Rattle.std.specs.Prelude.{◌≡◌, ◌≤◌, ◌<◌, length, IfOk}
 use crate::lane_end::LaneEnd;
 use crate::limits::PIECE;
 use crate::place::Place;
+use frame_hub::Buffer;
 use mio::net::UnixStream;
 use std::alloc::{AllocError, Global};
 use std::io::{ErrorKind, Write};
@@ -25,15 +26,14 @@ pub(crate) struct Port {
     pub may_end: bool,
     /// Its socket tells when it takes bytes again.
     pub is_full: bool,
-    out: Vec<u8>,
-    written: usize,
+    out: Buffer,
     place: Place,
     reply: Vec<u8>,
     alloc: Global,
 }
 
 /// What became of a write.
-#[derive(Clone, Copy, Debug, PartialEq, Eq)]
+#[derive(Clone, Copy, PartialEq, Eq)]
 pub(crate) enum Written {
     /// All, or as much as the socket takes now.
     Some,
@@ -50,8 +50,7 @@ impl Port {
             may_read: false,
             may_end: false,
             is_full: false,
-            out: Vec::new(alloc),
-            written: 0,
+            out: Buffer::new(alloc),
             place: Place::new(),
             reply: Vec::new(alloc),
             alloc,
@@ -65,8 +64,7 @@ impl Port {
         self.may_read = true;
         self.may_end = false;
         self.is_full = false;
-        self.out.clear();
-        self.written = 0;
+        self.out = Buffer::new(self.alloc);
         self.place = Place::new();
         self.forget();
     }
@@ -98,7 +96,7 @@ impl Port {
 
     /// How many bytes wait for its socket.
     pub(crate) fn waiting(&self) -> usize {
-        self.out.len().saturating_sub(self.written)
+        self.out.bytes().len()
     }
 
     /// A frame for it.
@@ -106,23 +104,20 @@ impl Port {
         let Ok(length) = u32::try_from(payload.len()) else {
             return Err(AllocError);
         };
-        self.out.extend_from_slice(&length.to_be_bytes())?;
-        self.out.extend_from_slice(payload)
+        self.out.push_both(&length.to_be_bytes(), payload)
     }
 
     // One write. Whether more may be written now; none where the lane takes nothing any more.
     fn write_once(&mut self) -> Option<bool> {
         let stream = self.stream.as_mut()?;
-        let left = self.out.get(self.written..)?;
+        let left = self.out.bytes();
         if left.is_empty() {
-            self.out.clear();
-            self.written = 0;
             return Some(false);
         }
         match stream.write(left) {
             Ok(0) => None,
             Ok(count) => {
-                self.written = self.written.saturating_add(count);
+                self.out.cut(count);
                 Some(true)
             }
             Err(error) => match error.kind() {

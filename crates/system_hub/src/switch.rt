@@ -186,13 +186,12 @@ impl<S: Net<Listener = TcpListener, Stream = TcpStream> + Clock, N: Watch> Switc
 
     // Hands a lane one frame. Whether there was one.
     fn hand(&mut self, lane: usize) -> bool {
-        if !self.hall.hub.has_room(lane) {
+        if !self
+            .hall
+            .hand(lane, &mut self.frame.payload, &mut self.piece)
+        {
             return false;
         }
-        let Some(number) = self.hall.hub.next(lane, &mut self.frame.payload) else {
-            return false;
-        };
-        self.hall.took(number, &mut self.piece);
         let is_put = match self.ports.get_mut(lane) {
             Some(port) => port.put(&self.frame.payload).is_ok(),
             None => false,
@@ -226,13 +225,12 @@ impl<S: Net<Listener = TcpListener, Stream = TcpStream> + Clock, N: Watch> Switc
             port.lose(since);
         }
         for _ in 0..MAX_AT_LANE {
-            if !self.hall.hub.has_room(lane) {
+            let has_one = self
+                .hall
+                .hand(lane, &mut self.frame.payload, &mut self.piece);
+            if !has_one {
                 break;
             }
-            let Some(number) = self.hall.hub.next(lane, &mut self.frame.payload) else {
-                break;
-            };
-            self.hall.took(number, &mut self.piece);
         }
         self.hall.lane_lost(lane);
     }
@@ -333,12 +331,12 @@ impl<S: Net<Listener = TcpListener, Stream = TcpStream> + Clock, N: Watch> Switc
 
     // Whether each lane has answered all, and each client has gone.
     fn is_through(&self) -> bool {
-        self.hall.is_stopping && self.hall.count == 0 && !self.has_frame()
+        self.hall.is_stopping && self.hall.is_empty() && !self.has_frame()
     }
 
     // Whether a lane has a frame that it has not answered.
     fn has_frame(&self) -> bool {
-        (0..self.ports.len()).any(|lane| self.hall.hub.has_frame(lane))
+        (0..self.ports.len()).any(|lane| self.hall.floor.has_frame(lane))
     }
 
     // Serves until each listener has ended, each frame that was taken is answered, and each client has

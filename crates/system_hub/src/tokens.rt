@@ -7,7 +7,7 @@ use frame_hub::{MAX_CLIENTS, MAX_LANES};
 use mio::Token;
 
 /// Whose socket it is.
-#[derive(Clone, Copy, Debug, PartialEq, Eq)]
+#[derive(Clone, Copy, PartialEq, Eq)]
 pub enum Socket {
     /// The client's in this seat.
     Client { seat: usize },

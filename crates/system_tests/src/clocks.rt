@@ -6,7 +6,6 @@ use std::sync::atomic::{AtomicU64, Ordering};
 use std::test::*;
 use std::time::Duration;
 use std::{io, time};
-use system_link::{ClockGuard, SystemSeconds};
 
 // Two clocks that are set by hand. The one of the seconds since 1970 can't be read at 0.
 #[derive(Drop)]
@@ -49,6 +48,7 @@ enum Lane {
 }
 
 use Lane::{First, Second};
+use system_io::{ClockGuard, SystemSeconds};
 
 // Two lanes' clocks under one guard.
 #[derive(Drop)]

@@ -1,7 +1,7 @@
 use node_status::push_page;
+use node_telling::{Happening, Journals, Tally, status_of};
 use std::sync::Arc;
 use std::test::*;
-use system_link::{Happening, Journals, Tally, status_of};
 
 // Lines of the page of two lanes: one wrote two replies of status 5, in 100 and 101 microseconds, and the other one.
 const LINES: &[&str] = &[

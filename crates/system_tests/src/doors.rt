@@ -1,4 +1,5 @@
 use frame_link::{Door, Failed, Source, fill, pour};
+use node_telling::{Listener, Rounds, Stop, stop_at_end};
 use std::alloc::{AllocError, Global};
 use std::io::{Read, Write};
 use std::net::{TcpListener, TcpStream};
@@ -7,10 +8,7 @@ use std::test::*;
 use std::thread::Threads;
 use std::time::Duration;
 use std::{io, thread};
-use system_link::{
-    Doorway, Listener, Rounds, Stop, TcpDoor, Terms, addresses_of, bind_all, doorways_of,
-    first_place, stop_at_end,
-};
+use system_io::{Doorway, TcpDoor, Terms, addresses_of, bind_all, doorways_of, first_place};
 
 // A door of the system.
 type SystemDoor<'a> = TcpDoor<&'a HostRuntime>;

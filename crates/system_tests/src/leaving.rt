@@ -1,10 +1,11 @@
+use node_telling::Telling;
 use std::alloc::{AllocError, Global};
 use std::io;
 use std::io::{Read, Write};
 use std::sync::Arc;
 use std::sync::atomic::{AtomicU64, Ordering};
 use std::test::*;
-use system_link::{Deferred, Outbox, Patient, Prompt, Telling};
+use system_io::{Deferred, Outbox, Patient, Prompt};
 
 // How many bytes have left, and how often they were flushed.
 #[derive(Drop)]

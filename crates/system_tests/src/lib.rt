@@ -9,6 +9,8 @@ mod counts;
 #[cfg(test)]
 mod doors;
 #[cfg(test)]
+mod hub_play;
+#[cfg(test)]
 mod leaving;
 #[cfg(test)]
 mod notices;

@@ -1,4 +1,8 @@
 use node_status::reply_at;
+use node_telling::{
+    Breakage, Form, Happening, LINES, LeftOut, Notice, NoticeQueue, Notices, Scribe, Telling,
+    Tells, WAITING, code_of, notices_of,
+};
 use std::alloc::{AllocError, Global};
 use std::io::{Read, Write};
 use std::net::{SocketAddr, TcpListener, TcpStream};
@@ -7,10 +11,6 @@ use std::sync::atomic::{AtomicBool, Ordering};
 use std::test::*;
 use std::time::{Duration, Instant};
 use std::{io, thread};
-use system_link::{
-    Breakage, Form, Happening, LINES, LeftOut, Notice, NoticeQueue, Notices, Scribe, Telling,
-    Tells, WAITING, code_of, notices_of,
-};
 
 // The front of a reply on channel 4 to the request 7.
 const FRONT: [u8; 13] = [4, 0, 0, 0, 4, 0, 0, 0, 0, 0, 0, 0, 7];

@@ -1,5 +1,6 @@
 use arrayvec::ArrayVec;
 use frame_link::{Failed, RelayAnswer, RelayLink};
+use node_telling::{Rounded, Rounds};
 use std::alloc::{AllocError, Global};
 use std::io::{Empty, Read, Write};
 use std::net::{TcpListener, TcpStream};
@@ -8,7 +9,7 @@ use std::test::*;
 use std::thread::Threads;
 use std::time::Duration;
 use std::{io, thread};
-use system_link::{LIMIT, Rounded, Rounds, TcpRelay};
+use system_io::{LIMIT, TcpRelay};
 
 // What a call answers, and how often the link has failed.
 type Told = (Result<RelayAnswer, Failed>, u64);

@@ -1,10 +1,11 @@
 use frame_link::{Failed, Sink, Source};
+use node_telling::Watched;
 use std::alloc::Global;
 use std::fs::File;
 use std::io;
 use std::io::{ErrorKind, Read, Write};
 use std::test::*;
-use system_link::{FileReading, Origin, Patient, Reading, Watched, Writing};
+use system_io::{FileReading, Origin, Patient, Reading, Writing};
 
 fn fails<S: Source>(source: &mut S) -> bool {
     let mut room = [0u8; 4];

@@ -1,6 +1,7 @@
 ghost use Rattle.std.specs.Prelude.{◌≡◌, ◌≤◌, IfSome};
 
 use frame_link::{Door, Failed};
+use node_telling::{Rounds, Shutter, Stop, Teller, Tells, notices_of};
 use std::alloc::{AllocError, Global};
 use std::io::{Read, Write};
 use std::net::{SocketAddr, TcpListener, TcpStream};
@@ -10,7 +11,6 @@ use std::thread::{JoinHandle, Threads};
 use std::time::Duration;
 use std::{io, thread};
 use system_hub::{Breakage, Edge, LaneEnd, Patience, Watch, start};
-use system_link::{Doorway, Rounds, Shutter, Stop, TcpDoor, Teller, Tells, Terms, notices_of};
 
 // What is done by a client, or seen of it.
 enum Step {
@@ -27,6 +27,7 @@ enum Step {
 }
 
 use Step::{Closes, Ends, Hears, Opens, Sends, Stops, Waits};
+use system_io::{Doorway, TcpDoor, Terms};
 
 // Two lanes and four seats, and the milliseconds that a client has. A lane answers a payload with its own number and the payload, but for
 // one whose fifth byte is 255: that ends the lane's stream.

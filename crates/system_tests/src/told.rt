@@ -2,6 +2,10 @@ use arrayvec::ArrayVec;
 use cred_pull::Fetch;
 use frame_link::{Clock, Door, RelayLink, fill, pour};
 use node_status::push_page;
+use node_telling::{
+    Breakage, Counting, Happening, Journals, NoticeQueue, Rounds, Stop, Tally, Tells, notices_of,
+    status_of, teller_of,
+};
 use std::alloc::{AllocError, Global};
 use std::io::{ErrorKind, Write};
 use std::net::{Shutdown, SocketAddr, TcpListener, TcpStream};
@@ -9,11 +13,7 @@ use std::sync::Arc;
 use std::test::*;
 use std::time::Duration;
 use std::{io, time};
-use system_link::{
-    Breakage, ClockGuard, Counting, Doorway, Happening, Journals, LIMIT, NoticeQueue, Rounds, Stop,
-    SystemSeconds, Tally, TcpDoor, TcpFetch, TcpRelay, Tells, Terms, notices_of, status_of,
-    teller_of,
-};
+use system_io::{ClockGuard, Doorway, LIMIT, SystemSeconds, TcpDoor, TcpFetch, TcpRelay, Terms};
 
 // A clock that can't be read.
 #[derive(Drop)]

@@ -8,7 +8,7 @@ use std::test::*;
 use std::thread::Threads;
 use std::time::Duration;
 use std::{io, thread};
-use system_link::{LIMIT, TcpFetch};
+use system_io::{LIMIT, TcpFetch};
 
 // A fetch from a wallet at an address.
 fn fetch_from<'a>(

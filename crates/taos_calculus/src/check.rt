@@ -25,7 +25,7 @@ use std::sync::Arc;
 use stmt_codec::Cert;
 
 /// What a proof proves: the one number speaks for the other.
-#[derive(Clone, Copy, Debug, PartialEq, Eq)]
+#[derive(Clone, Copy, PartialEq, Eq)]
 pub struct Conclusion {
     pub left: u16,
     pub right: u16,
@@ -33,7 +33,7 @@ pub struct Conclusion {
 
 /// The number of the first line that does not follow. Where all follow and conclude nothing, it
 /// is the number of lines.
-#[derive(Clone, Copy, Debug, PartialEq, Eq)]
+#[derive(Clone, Copy, PartialEq, Eq)]
 pub struct BadLine {
     pub line: u32,
 }

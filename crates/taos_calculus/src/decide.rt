@@ -23,7 +23,7 @@ pub const MAX_CERTS: usize = 64;
 pub const MAX_ENTRIES: usize = prin_term::MAX_ENTRIES as usize;
 
 /// A proof, with the places of the certificates that it cites, in the order of its numbers.
-#[derive(Debug, Drop)]
+#[derive(Drop)]
 pub struct Taken {
     pub proof: Proof,
     pub cites: Vec<u16>,

@@ -1,5 +1,5 @@
 /// A principal of a table, whose operands are named by their numbers in it.
-#[derive(Clone, Copy, PartialEq, Eq, Debug)]
+#[derive(Clone, Copy, PartialEq, Eq)]
 pub enum Node {
     Key(u32),
     Name(u32),
@@ -12,7 +12,7 @@ pub enum Node {
 }
 
 /// A judgement over the numbers of a table.
-#[derive(Clone, Copy, PartialEq, Eq, Debug)]
+#[derive(Clone, Copy, PartialEq, Eq)]
 pub enum Fact {
     /// `left => right`: the left speaks for the right.
     Speaks { left: u16, right: u16 },
@@ -22,7 +22,7 @@ pub enum Fact {
 
 /// The rule that gives a line's fact. Premises are numbers of earlier lines, counted from 0; an
 /// anchor is named by its place among the anchors, a certificate by its place among the cited.
-#[derive(Clone, Copy, PartialEq, Eq, Debug)]
+#[derive(Clone, Copy, PartialEq, Eq)]
 pub enum Step {
     /// `A => A`.
     Same,
@@ -57,7 +57,7 @@ pub enum Step {
 }
 
 /// A line of a derivation: what it says, and by which rule.
-#[derive(Clone, Copy, PartialEq, Eq, Debug)]
+#[derive(Clone, Copy, PartialEq, Eq)]
 pub struct Line {
     pub fact: Fact,
     pub step: Step,

@@ -17,7 +17,7 @@ pub const MAX_LINES: usize = 1_762_560;
 /// Lines over the numbers of a table of principals. The table is the canonical one of the lines,
 /// so no principal has two numbers, and lines over principals are one proof only. Whether a line
 /// follows is not part of it.
-#[derive(Debug, Drop)]
+#[derive(Drop)]
 pub struct Proof {
     nodes: Vec<Node>,
     lines: Vec<Line>,

@@ -15,7 +15,7 @@ use node_file::Opening;
 use std::alloc::{AllocError, Global};
 
 /// What the node of a drill is opened with, and what each lane sends, in the order of the lanes.
-#[derive(Debug, Drop)]
+#[derive(Drop)]
 pub struct DrillPlan {
     pub opening: Opening,
     pub streams: Vec<Vec<u8>>,

@@ -1,12 +1,16 @@
 mod Closing
+pub mod Counts
 pub mod Crossing
-mod Giving
-mod SoFar
-mod Rows
-mod Sat
-mod Joined
-mod Runs
-mod Totals
 mod Ends
+mod Giving
+mod Joined
+pub mod Nodes
+pub mod Numbered
 mod Opening
 mod Relayed
+mod Rows
+mod Runs
+mod Sat
+pub mod Small
+mod SoFar
+mod Totals

@@ -6,8 +6,8 @@ use Rattle.std.specs.List.{position_or_len}
 use Rattle.std.proofs.lemmas.List.Elements.{All-nil, All-cons, All-head, All-tail}
 use Rattle.std.proofs.lemmas.Option.{same_Some}
 use Rattle.frame_link.specs.Doors.{DoorSeen}
-use Rattle.agent_core.specs.Alone as alone
-use Rattle.agent_core.specs.Alone.{plans_in}
+use Rattle.shard_core.specs.Alone as alone
+use Rattle.shard_core.specs.Alone.{plans_in}
 use Rattle.agent_core.specs.Journals.{Entry, ShardSeen, IsLegalJournal}
 use Rattle.agent_core.specs.State.{Plan}
 use Rattle.agent_shards.specs.Cells.{IsClosed, shares_of}

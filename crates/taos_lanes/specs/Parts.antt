@@ -1,6 +1,6 @@
 -- What a node is opened with.
 use Rattle.std.specs.Prelude.{◌≡◌, [], All, map}
-use Rattle.agent_core.specs.Alone.{plans_in}
+use Rattle.shard_core.specs.Alone.{plans_in}
 use Rattle.agent_core.specs.Journals.{ShardSeen}
 use Rattle.agent_core.specs.Plans.{AreShards}
 use Rattle.object_core.specs.Objects.{ObjectSeen}

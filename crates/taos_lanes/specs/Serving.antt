@@ -1,7 +1,7 @@
 -- What the lanes of a node did, from its opening until its cells were closed.
 use Rattle.std.specs.Prelude.{◌≡◌, ℕ, ◌==◌, Bool, true, List, [], map, slice_get}
 use Rattle.std.specs.List.{position_or_len}
-use Rattle.agent_core.specs.Alone.{plans_in, seen_in}
+use Rattle.shard_core.specs.Alone.{plans_in, seen_in}
 use Rattle.agent_core.specs.Journals.{ShardSeen}
 use Rattle.agent_shards.specs.Each.{Each3}
 use Rattle.object_core.specs.Objects.{ObjectEntry, ObjectSeen}

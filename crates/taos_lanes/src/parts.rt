@@ -1,8 +1,8 @@
 //! What a node is opened with.
 
-use agent_core::Shard;
 use object_core::Object;
 use prin_term::Anchor;
+use shard_core::Shard;
 use std::sync::Arc;
 use stmt_codec::Cert;
 use taos_monitor::NodeKeys;

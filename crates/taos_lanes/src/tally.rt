@@ -6,7 +6,7 @@ ghost use Rattle.taos_lanes.specs.Working.{CountsOne};
 use frame_link::Outcome;
 
 /// What a lane's worker has counted.
-#[derive(Clone, Copy, Debug, PartialEq, Eq)]
+#[derive(Clone, Copy, PartialEq, Eq)]
 pub struct Tally {
     /// The connections that it served.
     pub served: u64,

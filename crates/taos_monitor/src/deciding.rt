@@ -38,7 +38,7 @@ pub(crate) struct Came<'a> {
 }
 
 /// The ruling on a request, with the shard and the place of its Ask.
-#[derive(Clone, Copy, Debug)]
+#[derive(Clone, Copy)]
 pub(crate) struct Ruled {
     pub(crate) shard: u32,
     pub(crate) place: u64,

@@ -19,7 +19,7 @@ use std::sync::Wait;
 use taos_wire::Reply;
 
 /// How the steps of an operation ended.
-#[derive(Clone, Copy, Debug, PartialEq, Eq)]
+#[derive(Clone, Copy, PartialEq, Eq)]
 pub(crate) enum Effected {
     /// Each was done; whether any certificate was let go.
     Through { removed: bool },

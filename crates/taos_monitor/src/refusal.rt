@@ -8,7 +8,7 @@ ghost use Rattle.taos_monitor.specs.Refusals.{refusal};
 use std::alloc::{AllocError, AllocFailed};
 use taos_wire::Reply;
 
-#[derive(Clone, Copy, Debug, PartialEq, Eq)]
+#[derive(Clone, Copy, PartialEq, Eq)]
 pub enum Refusal {
     /// The payload is no request: its first byte that can't stand where it does.
     Malformed { offset: u32 },

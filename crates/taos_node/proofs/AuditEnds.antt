@@ -3,10 +3,10 @@ use Rattle.std.proofs.Common.{◌≡◌, ℕ, List, length, Option, refl, ap, su
 use Rattle.frame_link.specs.declared.outcome.Outcome.{Outcome}
 use Rattle.frame_link.specs.declared.outcome.Outcome.TheVariants.{End, Truncated, TooLong, ReadFault, WriteFault, ClockFault, Spent, NoMemory}
 use Rattle.frame_link.specs.Served.{FaultCounts, CountsCause}
-use Rattle.node_audit.specs.declared.audit.AuditEnd.{AuditEnd}
-use Rattle.node_audit.specs.declared.audit.AuditEnd.TheVariants as audits
+use Rattle.node_journals.specs.declared.audit.AuditEnd.{AuditEnd}
+use Rattle.node_journals.specs.declared.audit.AuditEnd.TheVariants as audits
 use Rattle.taos_node.specs.Audit.{counts, AuditCauses, AuditIsComplete, IsEnd, WritesAudit}
-use Rattle.node_audit.specs.Audit.{TextHasCause, WritesText}
+use Rattle.node_journals.specs.Audit.{TextHasCause, WritesText}
 use Rattle.taos_node.proofs.Commands.{still}
 use Rattle.taos_node.proofs.Statuses.{IsCompleteBy, same_counts}
 

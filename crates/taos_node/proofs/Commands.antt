@@ -9,10 +9,10 @@ use Rattle.frame_link.specs.Served.{HasCauses, IsComplete, line}
 use Rattle.taos_lanes.specs.Workers.{LaneShown}
 use Rattle.request_course.specs.Cells.{Node, Seen, alone_of}
 use Rattle.request_course.specs.Connection.{IsConnection}
-use Rattle.command_file.specs.declared.fault.FileFault.{FileFault}
-use Rattle.command_file.specs.declared.fault.FileFault.TheVariants as fault
-use Rattle.command_file.specs.declared.fault.FileFault.TheVariants.{Malformed, Refused}
-use Rattle.command_file.specs.Files.{FaultHasCause, FileFails, IsRefused, Meaning, Opens}
+use Rattle.node_commands.specs.declared.fault.FileFault.{FileFault}
+use Rattle.node_commands.specs.declared.fault.FileFault.TheVariants as fault
+use Rattle.node_commands.specs.declared.fault.FileFault.TheVariants.{Malformed, Refused}
+use Rattle.node_commands.specs.Files.{FaultHasCause, FileFails, IsRefused, Meaning, Opens}
 use Rattle.taos_node.specs.Deciding.{FileDecides}
 use Rattle.frame_link.specs.Streams.{Stream}
 use Rattle.taos_node.specs.Calls.{LaneUsed, touched, first_of, used_of}
@@ -22,7 +22,7 @@ use Rattle.file_lines.specs.declared.fault.FileFault.TheVariants.{Line, Byte}
 use Rattle.frame_link.proofs.Complete.{left_after}
 use Rattle.request_course.specs.World.{setting_of}
 use Rattle.taos_node.proofs.Stopped.{file_status}
-use Rattle.command_file.proofs.Meant.{told_is, IsMeantBy}
+use Rattle.node_commands.proofs.Meant.{told_is, IsMeantBy}
 
 -- a count that stood still did not rise
 pub still : (before now : ℕ) → (now ≡ before) × (before < 2 ^ 64 - 1) → Rose before now → ⊥

@@ -7,25 +7,25 @@ use Rattle.frame_link.specs.declared.outcome.Outcome.{Outcome}
 use Rattle.frame_link.specs.declared.outcome.Outcome.TheVariants.{End, WriteFault, NoMemory}
 use Rattle.frame_link.specs.Served.{CountsCause}
 use Rattle.node_file.specs.Opening.{Opening}
-use Rattle.node_audit.specs.declared.audit.AuditEnd.{AuditEnd}
-use Rattle.node_audit.specs.declared.audit.AuditEnd.TheVariants as audits
+use Rattle.node_journals.specs.declared.audit.AuditEnd.{AuditEnd}
+use Rattle.node_journals.specs.declared.audit.AuditEnd.TheVariants as audits
 use Rattle.drill_run.specs.declared.serving.DrillEnd.{DrillEnd}
 use Rattle.drill_run.specs.declared.serving.DrillEnd.TheVariants as drills
 use Rattle.taos_node.specs.Audit.{AuditCauses, AuditIsComplete}
-use Rattle.node_audit.specs.declared.audit.Form.{Form}
-use Rattle.node_audit.specs.declared.audit.Form.TheVariants as form
+use Rattle.node_journals.specs.declared.audit.Form.{Form}
+use Rattle.node_journals.specs.declared.audit.Form.TheVariants as form
 use Rattle.taos_node.specs.Calls.{Touched}
 use Rattle.taos_node.specs.Command.{AsksAudit, ReadsClock, audit_task, counts_of}
 use Rattle.taos_node.specs.Status.{EndsWell, EndsWellFor, FileDecidesFor, IsStatus, PassesWell}
 use Rattle.drill_run.specs.Drills.{DrillCauses}
-use Rattle.command_file.specs.Files.{IsNodeFile, IsPathFile, IsSteady, OpensNode, OpensPath, node_means, path_means}
+use Rattle.node_commands.specs.Files.{IsNodeFile, IsPathFile, IsSteady, OpensNode, OpensPath, node_means, path_means}
 use Rattle.taos_node.specs.Deciding.{FileDecides}
-use Rattle.path_run.specs.Paths.{PathCauses}
-use Rattle.path_run.specs.declared.path.PathEnd.{PathEnd}
-use Rattle.path_run.specs.declared.path.PathEnd.TheVariants as passed_ends
+use Rattle.node_commands.specs.Paths.{PathCauses}
+use Rattle.node_commands.specs.declared.path.PathEnd.{PathEnd}
+use Rattle.node_commands.specs.declared.path.PathEnd.TheVariants as passed_ends
 use Rattle.node_words.specs.Words.{Drill, DrillWords, Mean, Path, PathWords}
 use Rattle.taos_node.proofs.Commands.{decided_opened, still}
-use Rattle.command_file.proofs.Meant.{node_files, path_files}
+use Rattle.node_commands.proofs.Meant.{node_files, path_files}
 use Rattle.taos_node.proofs.Statuses.{Rises, all_same, by_read, by_write, ended, same_counts, serving_rises, stays}
 use Rattle.taos_node.proofs.Stopped.{audited_status, drilled_status, path_status, served_status}
 

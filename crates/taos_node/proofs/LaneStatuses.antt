@@ -16,23 +16,23 @@ use Rattle.taos_lanes.specs.Serving.{IsRunOf}
 use Rattle.taos_monitor.specs.Changing.{change}
 use Rattle.taos_lanes.specs.Telling.{Telling}
 use Rattle.taos_lanes.specs.Working.{HasDoorCause}
-use Rattle.node_check.specs.declared.check.CheckEnd.TheVariants as ends
+use Rattle.node_commands.specs.declared.check.CheckEnd.TheVariants as ends
 use Rattle.taos_node.specs.declared.ending.Ending.{Ending}
 use Rattle.taos_node.specs.declared.ending.Ending.TheVariants as ending
 use Rattle.taos_node.specs.declared.ending.Ending.TheVariants.{Usage, File, Served, Checked, Relayed, Minted, Lanes, RelayLanes, Audited, Drilled, Passed, Walleted, Replayed}
-use Rattle.command_file.specs.declared.fault.FileFault.{FileFault}
+use Rattle.node_commands.specs.declared.fault.FileFault.{FileFault}
 use Rattle.taos_node.specs.declared.ending.LanesEnd.{LanesEnd}
 use Rattle.taos_node.specs.declared.ending.LanesEnd.TheVariants as lanes
 use Rattle.taos_node.specs.Command.{IsCommand, ServesDoors, Runs, RunsAlone}
 use Rattle.taos_node.specs.Status.{Does, EndsAlone, EndsWellFor, FileDecidesFor, HasSameCount, HasSteadyDoor, IsStatus, TellsDoors}
 use Rattle.taos_node.specs.Calls.{Touched, over}
 use Rattle.taos_node.specs.Stops.{status_of}
-use Rattle.command_file.specs.Files.{FaultHasCause, FileFails, HasFailed, IsNodeFile, IsRelayFile, IsSteady, node_means, relay_means}
+use Rattle.node_commands.specs.Files.{FaultHasCause, FileFails, HasFailed, IsNodeFile, IsRelayFile, IsSteady, node_means, relay_means}
 use Rattle.taos_node.specs.Lanes.{HasNoneFailed, LanesCauses, PrintsLine, ServesLanes, served, unserved}
 use Rattle.taos_node.specs.RelayLanes.{RelaysDoors}
 use Rattle.node_words.specs.Words.{Mean, RelayServe, Serve, ServeWords, Task}
 use Rattle.taos_node.proofs.Commands.{still}
-use Rattle.command_file.proofs.Meant.{node_files, relay_files}
+use Rattle.node_commands.proofs.Meant.{node_files, relay_files}
 use Rattle.taos_node.proofs.Statuses.{apart, file_ends, is_file_status, lacked, of_command, stayed, two_commands}
 use Rattle.taos_node.proofs.Stopped.{file_status, lanes_status}
 

@@ -6,12 +6,12 @@ use Rattle.node_file.specs.Opening.{Opening}
 use Rattle.node_words.specs.Words.{Mean, Replay}
 use Rattle.taos_node.specs.Calls.{Touched}
 use Rattle.taos_node.specs.Status.{IsStatus, ReplaysWell}
-use Rattle.command_file.specs.Files.{IsNodeFile, OpensNode, node_means}
-use Rattle.replay_run.specs.Replaying.{ReplayCauses}
-use Rattle.replay_run.specs.declared.replay.ReplayEnd.{ReplayEnd}
-use Rattle.replay_run.specs.declared.replay.ReplayEnd.TheVariants as replay_ends
+use Rattle.node_commands.specs.Files.{IsNodeFile, OpensNode, node_means}
+use Rattle.node_journals.specs.Replaying.{ReplayCauses}
+use Rattle.node_journals.specs.declared.replay.ReplayEnd.{ReplayEnd}
+use Rattle.node_journals.specs.declared.replay.ReplayEnd.TheVariants as replay_ends
 use Rattle.taos_node.proofs.Commands.{decided_opened, still}
-use Rattle.command_file.proofs.Meant.{node_files}
+use Rattle.node_commands.proofs.Meant.{node_files}
 use Rattle.taos_node.proofs.Statuses.{Rises, all_same, by_read, by_write, ended, stays}
 use Rattle.taos_node.proofs.Stopped.{replay_status}
 

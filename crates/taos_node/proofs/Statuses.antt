@@ -11,30 +11,30 @@ use Rattle.frame_link.specs.Faults.{Rose}
 use Rattle.frame_link.specs.Served.{FaultCounts, CountsCause, IsComplete, line}
 use Rattle.frame_link.specs.Streams.{Stream, stream}
 use Rattle.taos_node.specs.Audit.{counts}
-use Rattle.node_check.specs.declared.check.CheckEnd.{CheckEnd}
-use Rattle.node_check.specs.declared.check.CheckEnd.TheVariants as ends
-use Rattle.command_file.specs.declared.fault.FileFault.{FileFault}
-use Rattle.command_file.specs.declared.fault.FileFault.TheVariants as fault
-use Rattle.command_file.specs.declared.fault.FileFault.TheVariants.{Malformed, Refused}
-use Rattle.node_check.specs.declared.finding.Finding.TheVariants.{Granted, Refused as Wrong}
+use Rattle.node_commands.specs.declared.check.CheckEnd.{CheckEnd}
+use Rattle.node_commands.specs.declared.check.CheckEnd.TheVariants as ends
+use Rattle.node_commands.specs.declared.fault.FileFault.{FileFault}
+use Rattle.node_commands.specs.declared.fault.FileFault.TheVariants as fault
+use Rattle.node_commands.specs.declared.fault.FileFault.TheVariants.{Malformed, Refused}
+use Rattle.node_commands.specs.declared.finding.Finding.TheVariants.{Granted, Refused as Wrong}
 use Rattle.node_words.specs.Words.{IsMeaning, Mean, MintWords, RunWords, Task, Run, Check, Relay, Mint, Serve, RelayServe, Audit, Drill, Path, Wallet, task_of, AuditBytes, Replay}
 use Rattle.node_words.specs.declared.wanted.Wanted.{Wanted}
 use Rattle.cred_pull.specs.WalletFile.{WalletRow}
-use Rattle.command_file.specs.Files.{FaultHasCause, FileFails, IsNodeFile, IsPathFile, IsRelayFile, IsSteady, IsWalletFile, Meaning, OpensNode, OpensRelay, OpensWallet, node_means, path_means, relay_means, wallet_means}
+use Rattle.node_commands.specs.Files.{FaultHasCause, FileFails, IsNodeFile, IsPathFile, IsRelayFile, IsSteady, IsWalletFile, Meaning, OpensNode, OpensRelay, OpensWallet, node_means, path_means, relay_means, wallet_means}
 use Rattle.taos_node.specs.Deciding.{FileDecides}
 use Rattle.taos_node.specs.Calls.{LaneUsed, Touched, touched}
 use Rattle.std.proofs.KnownBytes.{Keeps-refl}
 use Rattle.taos_node.specs.declared.ending.Ending.TheVariants.{File}
 use Rattle.taos_node.specs.Command.{IsCommand, FileFailsFor, LeavesRest, ReadsClock, ServesDoors, counts_of}
 use Rattle.taos_node.specs.Status.{EndsWithoutLanes, FileDecidesFor, EndsWell, EndsWellFor, ChecksWell, MintsWell, IsCaused, TellsFaults, IsStatus}
-use Rattle.node_check.specs.Findings.{CheckCauses}
-use Rattle.cert_mint.specs.Minting.{MintCauses}
-use Rattle.cert_mint.specs.declared.minting.MintEnd.{MintEnd}
-use Rattle.cert_mint.specs.declared.minting.MintEnd.TheVariants as made
+use Rattle.node_commands.specs.Findings.{CheckCauses}
+use Rattle.node_commands.specs.Minting.{MintCauses}
+use Rattle.node_commands.specs.declared.minting.MintEnd.{MintEnd}
+use Rattle.node_commands.specs.declared.minting.MintEnd.TheVariants as made
 use Rattle.std.specs.Prelude.{Option, Some, None, map, string_bytes}
 use Rattle.node_words.proofs.Meanings.{one_meaning}
 use Rattle.taos_node.proofs.Commands.{decided_opened, decided_fault, not_refused, still}
-use Rattle.command_file.proofs.Meant.{IsMeantBy, node_files, path_files, relay_files, wallet_files}
+use Rattle.node_commands.proofs.Meant.{IsMeantBy, node_files, path_files, relay_files, wallet_files}
 use Rattle.taos_node.proofs.Stopped.{checked_status, file_status, minted_status, served_status}
 
 pub stayed : {P : Type 0} (a b : ℕ) → b ≡ a → a < b → P

@@ -1,14 +1,14 @@
 -- The exit status of each kind of end.
 use Rattle.std.proofs.Common.{ℕ}
 use Rattle.frame_link.specs.declared.outcome.Outcome.{Outcome}
-use Rattle.node_check.specs.declared.check.CheckEnd.{CheckEnd}
-use Rattle.node_audit.specs.declared.audit.AuditEnd.{AuditEnd}
+use Rattle.node_commands.specs.declared.check.CheckEnd.{CheckEnd}
+use Rattle.node_journals.specs.declared.audit.AuditEnd.{AuditEnd}
 use Rattle.drill_run.specs.declared.serving.DrillEnd.{DrillEnd}
-use Rattle.command_file.specs.declared.fault.FileFault.{FileFault}
+use Rattle.node_commands.specs.declared.fault.FileFault.{FileFault}
 use Rattle.taos_node.specs.declared.ending.LanesEnd.{LanesEnd}
-use Rattle.cert_mint.specs.declared.minting.MintEnd.{MintEnd}
-use Rattle.path_run.specs.declared.path.PathEnd.{PathEnd}
-use Rattle.replay_run.specs.declared.replay.ReplayEnd.{ReplayEnd}
+use Rattle.node_commands.specs.declared.minting.MintEnd.{MintEnd}
+use Rattle.node_commands.specs.declared.path.PathEnd.{PathEnd}
+use Rattle.node_journals.specs.declared.replay.ReplayEnd.{ReplayEnd}
 use Rattle.taos_node.specs.Stops.{audited_stop, checked_stop, drilled_stop, file_stop, lanes_stop, minted_stop, path_stop, replay_stop, served_stop, status_by, stop_status}
 
 abbrev pub file_status : FileFault → ℕ

@@ -6,8 +6,8 @@ use Rattle.frame_link.specs.declared.outcome.Outcome.TheVariants.{End, NoMemory,
 use Rattle.frame_link.specs.declared.service.TheConstants.{MAX_PAYLOAD}
 use Rattle.frame_link.specs.Frames.{framed}
 use Rattle.frame_link.specs.Served.{FaultCounts, CountsCause, Line, StandStill, counts_of}
-use Rattle.node_audit.specs.declared.audit.AuditEnd.{AuditEnd}
-use Rattle.node_audit.specs.declared.audit.AuditEnd.TheVariants as audit
+use Rattle.node_journals.specs.declared.audit.AuditEnd.{AuditEnd}
+use Rattle.node_journals.specs.declared.audit.AuditEnd.TheVariants as audit
 use Rattle.taos_node.specs.Calls.{LaneUsed, clock_count}
 
 -- the outcome is the end of whole frames

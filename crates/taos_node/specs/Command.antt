@@ -6,14 +6,14 @@ use Rattle.frame_link.specs.declared.outcome.Outcome.{Outcome}
 use Rattle.frame_link.specs.Outside.{outside_of}
 use Rattle.frame_link.specs.Served.{Line, line, FaultCounts, IsServed}
 use Rattle.frame_link.specs.Streams.{Stream, stream}
-use Rattle.command_file.specs.declared.fault.FileFault.{FileFault}
+use Rattle.node_commands.specs.declared.fault.FileFault.{FileFault}
 use Rattle.taos_node.specs.declared.ending.Ending.{Ending}
 use Rattle.taos_node.specs.declared.ending.Ending.TheVariants as ending
 use Rattle.taos_node.specs.declared.ending.Ending.TheVariants.{Usage, File, Served, Checked, Relayed, Minted, Lanes, RelayLanes, Audited, Drilled, Passed, Walleted, Replayed}
-use Rattle.command_file.specs.Files.{OpensNode, OpensPath, OpensRelay, OpensWallet, FileFails, node_means, path_means, relay_means, wallet_means}
+use Rattle.node_commands.specs.Files.{OpensNode, OpensPath, OpensRelay, OpensWallet, FileFails, node_means, path_means, relay_means, wallet_means}
 use Rattle.taos_node.specs.Calls.{Call, LaneUsed, Touched, with_file}
 use Rattle.node_words.specs.Words.{Mean, MintWords, DrillWords, PathWords, RunWords, ServeWords, Task, Run, Check, Relay, Mint, Serve, RelayServe, Audit, Drill, Path, Wallet, AuditBytes, Replay}
-use Rattle.node_check.specs.declared.check.CheckEnd.{CheckEnd}
+use Rattle.node_commands.specs.declared.check.CheckEnd.{CheckEnd}
 use Rattle.taos_node.specs.Stops.{status_of}
 use Rattle.taos_node.specs.Notes.{note_of, IsNoted}
 use Rattle.taos_lanes.specs.declared.lane.Lane.{Lane}
@@ -21,37 +21,37 @@ use Rattle.frame_link.specs.declared.limits.Limits.{Limits}
 use Rattle.taos_lanes.specs.Workers.{LaneShown}
 use Rattle.taos_monitor.specs.Changing.{Change, change}
 use Rattle.taos_lanes.specs.Telling.{Telling, told_by}
-use Rattle.node_audit.specs.declared.audit.AuditEnd.{AuditEnd}
+use Rattle.node_journals.specs.declared.audit.AuditEnd.{AuditEnd}
 use Rattle.drill_run.specs.declared.serving.DrillEnd.{DrillEnd}
 use Rattle.taos_node.specs.Audit.{WritesAudit, counts}
-use Rattle.node_audit.specs.Audit.{AreLegalAs, IsAuditOf, WasMade}
+use Rattle.node_journals.specs.Audit.{AreLegalAs, IsAuditOf, WasMade}
 use Rattle.drill_run.specs.Drills.{Drills}
 use Rattle.taos_node.specs.Lanes.{ServesLanes}
 use Rattle.taos_node.specs.RelayLanes.{IsRelayOf, RelaysDoors}
 use Rattle.node_file.specs.Opening.{Opening}
 use Rattle.node_file.specs.RelayFile.{RelayFile}
-use Rattle.cert_mint.specs.declared.minting.MintEnd.{MintEnd}
-use Rattle.cert_mint.specs.Minting.{Mints}
+use Rattle.node_commands.specs.declared.minting.MintEnd.{MintEnd}
+use Rattle.node_commands.specs.Minting.{Mints}
 use Rattle.relay_path.specs.Domains.{DomainKnows}
 use Rattle.cred_pull.specs.WalletFile.{WalletRow}
 use Rattle.cred_pull.specs.WalletServing as wallets
-use Rattle.path_run.specs.declared.path.PathEnd.{PathEnd}
-use Rattle.path_run.specs.Paths.{Passes}
+use Rattle.node_commands.specs.declared.path.PathEnd.{PathEnd}
+use Rattle.node_commands.specs.Paths.{Passes}
 use Rattle.taos_node.specs.declared.audit.AuditAsked.{AuditAsked}
-use Rattle.node_audit.specs.declared.audit.Form.{Form}
-use Rattle.node_audit.specs.declared.audit.Form.TheVariants as form
+use Rattle.node_journals.specs.declared.audit.Form.{Form}
+use Rattle.node_journals.specs.declared.audit.Form.TheVariants as form
 use Rattle.taos_node.specs.declared.command.FirstAsked.{FirstAsked}
-use Rattle.replay_run.specs.declared.replay.ReplayEnd.{ReplayEnd}
-use Rattle.replay_run.specs.Replaying.{Replays}
+use Rattle.node_journals.specs.declared.replay.ReplayEnd.{ReplayEnd}
+use Rattle.node_journals.specs.Replaying.{Replays}
 use Rattle.prin_text.specs.Labels.{Labels}
 use Rattle.relay_core.specs.declared.resealing.RelayTable.{RelayTable}
 use Rattle.relay_core.specs.Serving.{Answers, GivesUp}
 use Rattle.request_course.specs.Cells.{Node, Seen, alone_of}
 use Rattle.request_course.specs.Connection.{IsConnection}
 use Rattle.request_course.specs.World.{World, fetch_use, setting_of}
-use Rattle.opened_node.specs.declared.opened.OpenNode.{OpenNode}
-use Rattle.opened_node.specs.Opened.{IsNodeOf, IsOpenedBy, node_by, nothing_seen, seen_by}
-use Rattle.node_check.specs.Findings.{Checks}
+use Rattle.taos_lanes.specs.declared.opened.OpenNode.{OpenNode}
+use Rattle.taos_lanes.specs.Opened.{IsNodeOf, IsOpenedBy, node_by, nothing_seen, seen_by}
+use Rattle.node_commands.specs.Findings.{Checks}
 
 -- the words are a command line
 abbrev pub IsCommand : List (String Global) → Type 0

@@ -1,7 +1,7 @@
 -- Which files are refused, by the exit status.
 use Rattle.std.specs.Prelude.{◌≡◌, ◌≢◌, ◌⊎◌, ℕ, List, Some}
 use Rattle.frame_link.specs.Streams.{Stream}
-use Rattle.command_file.specs.Files.{IsSteady}
+use Rattle.node_commands.specs.Files.{IsSteady}
 
 -- Which files are refused: one that means nothing is, and every other is not, unless its count rises
 -- or memory is refused.

@@ -17,8 +17,8 @@ use Rattle.taos_lanes.specs.Telling.{Telling}
 use Rattle.taos_node.specs.declared.ending.LanesEnd.{LanesEnd}
 use Rattle.taos_node.specs.declared.ending.LanesEnd.TheVariants as lanes
 use Rattle.taos_node.specs.declared.lanes.LanesAsked.{LanesAsked}
-use Rattle.opened_node.specs.Opened.{IsNodeOf, ServesOpening}
-use Rattle.count_lines.specs.Summary.{lanes_line}
+use Rattle.taos_lanes.specs.Opened.{IsNodeOf, ServesOpening}
+use Rattle.taos_lanes.specs.Summary.{lanes_line}
 
 -- no door failed: the first lane whose door did is none of the lanes
 abbrev pub HasNoneFailed : Total → Type 0

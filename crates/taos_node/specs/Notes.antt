@@ -5,8 +5,8 @@ use Rattle.frame_link.specs.Faults.{Rose}
 use Rattle.file_lines.specs.declared.fault.FileCause.{FileCause}
 use Rattle.file_lines.specs.declared.fault.FileCause.TheVariants.{FirstLine, UnknownWord, Words, Number, Hex, Rights, UnknownDomain, NodeFirst, UnknownObject, UnknownName, Principal, Text, Certificate, Twice, Limit, NoNode}
 use Rattle.taos_node.specs.declared.ending.Ending.{Ending}
-use Rattle.cert_mint.specs.declared.minting.MintWord.{MintWord}
-use Rattle.cert_mint.specs.declared.minting.MintWord.TheVariants as word
+use Rattle.node_commands.specs.declared.minting.MintWord.{MintWord}
+use Rattle.node_commands.specs.declared.minting.MintWord.TheVariants as word
 use Rattle.taos_node.specs.declared.stop.Stop.{Stop}
 use Rattle.taos_node.specs.declared.stop.Stop.TheVariants.{Usage, Line, Malformed, ReadFault, WriteFault, ClockFault, NoMemory, Truncated, TooLong, DoorFault, Spent, NotGranted, Word, Hop, Illegal}
 use Rattle.taos_node.specs.Stops.{stop_of}

@@ -14,7 +14,7 @@ use Rattle.taos_monitor.specs.Changing.{Change}
 use Rattle.taos_lanes.specs.Telling.{Telling}
 use Rattle.taos_node.specs.declared.ending.LanesEnd.{LanesEnd}
 use Rattle.taos_node.specs.Lanes.{PrintsLine, told_in}
-use Rattle.count_lines.specs.Summary.{relays_line}
+use Rattle.taos_lanes.specs.Summary.{relays_line}
 
 -- the relay has the keys of the file
 pub record IsRelayOf (r : RelayFile) (table : RelayTable) : Type 0 where

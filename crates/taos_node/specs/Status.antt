@@ -5,7 +5,7 @@ use Rattle.std.specs.declared.alloc.Global.{Global}
 use Rattle.frame_link.specs.Frames.{framed}
 use Rattle.frame_link.specs.Streams.{Stream}
 use Rattle.taos_node.specs.declared.ending.Ending.{Ending}
-use Rattle.command_file.specs.Files.{IsNodeFile, IsPathFile, IsRelayFile, IsWalletFile, HasFailed, IsSteady}
+use Rattle.node_commands.specs.Files.{IsNodeFile, IsPathFile, IsRelayFile, IsWalletFile, HasFailed, IsSteady}
 use Rattle.taos_node.specs.Deciding.{FileDecides}
 use Rattle.taos_node.specs.Calls.{Call, LaneUsed, Touched, DoorsTouched, with_input}
 use Rattle.node_words.specs.Words.{Mean, Task, Run, Check, Relay, Mint, Serve, RelayServe, Audit, Drill, Path, Wallet, AuditBytes, Replay}

@@ -2,25 +2,25 @@
 use Rattle.std.specs.Prelude.{ℕ, Option, Some, None, true, false}
 use Rattle.frame_link.specs.declared.outcome.Outcome.{Outcome}
 use Rattle.frame_link.specs.declared.outcome.Outcome.TheVariants as outcome
-use Rattle.node_check.specs.declared.check.CheckEnd.{CheckEnd}
-use Rattle.node_check.specs.declared.check.CheckEnd.TheVariants as check
-use Rattle.node_check.specs.declared.finding.Finding.TheVariants as finding
-use Rattle.node_audit.specs.declared.audit.AuditEnd.{AuditEnd}
-use Rattle.node_audit.specs.declared.audit.AuditEnd.TheVariants as audit
+use Rattle.node_commands.specs.declared.check.CheckEnd.{CheckEnd}
+use Rattle.node_commands.specs.declared.check.CheckEnd.TheVariants as check
+use Rattle.node_commands.specs.declared.finding.Finding.TheVariants as finding
+use Rattle.node_journals.specs.declared.audit.AuditEnd.{AuditEnd}
+use Rattle.node_journals.specs.declared.audit.AuditEnd.TheVariants as audit
 use Rattle.drill_run.specs.declared.serving.DrillEnd.{DrillEnd}
 use Rattle.drill_run.specs.declared.serving.DrillEnd.TheVariants as drill
 use Rattle.taos_node.specs.declared.ending.Ending.{Ending}
 use Rattle.taos_node.specs.declared.ending.Ending.TheVariants as ending
-use Rattle.command_file.specs.declared.fault.FileFault.{FileFault}
-use Rattle.command_file.specs.declared.fault.FileFault.TheVariants as fault
+use Rattle.node_commands.specs.declared.fault.FileFault.{FileFault}
+use Rattle.node_commands.specs.declared.fault.FileFault.TheVariants as fault
 use Rattle.taos_node.specs.declared.ending.LanesEnd.{LanesEnd}
 use Rattle.taos_node.specs.declared.ending.LanesEnd.TheVariants as lanes
-use Rattle.cert_mint.specs.declared.minting.MintEnd.{MintEnd}
-use Rattle.cert_mint.specs.declared.minting.MintEnd.TheVariants as mint
-use Rattle.path_run.specs.declared.path.PathEnd.{PathEnd}
-use Rattle.path_run.specs.declared.path.PathEnd.TheVariants as path
-use Rattle.replay_run.specs.declared.replay.ReplayEnd.{ReplayEnd}
-use Rattle.replay_run.specs.declared.replay.ReplayEnd.TheVariants as replay
+use Rattle.node_commands.specs.declared.minting.MintEnd.{MintEnd}
+use Rattle.node_commands.specs.declared.minting.MintEnd.TheVariants as mint
+use Rattle.node_commands.specs.declared.path.PathEnd.{PathEnd}
+use Rattle.node_commands.specs.declared.path.PathEnd.TheVariants as path
+use Rattle.node_journals.specs.declared.replay.ReplayEnd.{ReplayEnd}
+use Rattle.node_journals.specs.declared.replay.ReplayEnd.TheVariants as replay
 use Rattle.taos_node.specs.declared.stop.Stop.{Stop}
 use Rattle.taos_node.specs.declared.stop.Stop.TheVariants.{Usage, Line, Malformed, ReadFault, WriteFault, ClockFault, NoMemory, Truncated, TooLong, DoorFault, Spent, NotGranted, Word, Hop, Illegal}
 

@@ -3,7 +3,7 @@
 ghost use Rattle.std.specs.Prelude.{◌≡◌, ◌⊎◌, ◌<◌, ◌≤◌, String, length, IfOk, None};
 ghost use Rattle.std.specs.declared.alloc.Global.{Global};
 ghost use Rattle.agent_core.specs.declared.limits.TheConstants.{MAX_SHARDS};
-ghost use Rattle.agent_core.specs.Alone.{plans_in};
+ghost use Rattle.shard_core.specs.Alone.{plans_in};
 ghost use Rattle.frame_link.specs.Served.{HasCauses, IsComplete};
 ghost use Rattle.object_core.specs.OneOwner.{taken_from};
 ghost use Rattle.taos_monitor.specs.Planned.{ArePlanned};
@@ -13,8 +13,8 @@ ghost use Rattle.taos_lanes.specs.declared.serving.TheConstants.{MAX_LANES};
 ghost use Rattle.taos_node.specs.Calls.{call_over, called_by, clock_count, first_line, touched};
 ghost use Rattle.taos_node.specs.Command.{Ends, LeavesBy, LeavesLanes, ServesDoors, ServesFirst};
 ghost use Rattle.taos_node.specs.Status.{Does, EndsWithoutLanes, TellsDoors, TellsStatus};
-ghost use Rattle.command_file.specs.Files.{FileHasCause, NodeFileGives};
-ghost use Rattle.opened_node.specs.Opened.{IsOpenedBy, IsSameNode, IsSmall};
+ghost use Rattle.node_commands.specs.Files.{FileHasCause, NodeFileGives};
+ghost use Rattle.taos_lanes.specs.Opened.{IsOpenedBy, IsSameNode, IsSmall};
 ghost use Rattle.node_words.specs.Words.{Check};
 
 use crate::audit::{AuditAsked, audit_by_file};
@@ -27,20 +27,18 @@ use crate::relay::{mint_by_file, relay_by_file};
 use crate::relay_lanes::serve_relay_by_file;
 use crate::replay::replay_by_file;
 use crate::wallet::wallet_by_file;
-use command_file::{FileFault, file_opening};
 use cred_pull::Fetch;
 use frame_link::{Clock, Door, Outcome, RelayLink, Sink, Source};
 use goal_search::Workbench;
 use lemma_memo::Lemmas;
-use node_audit::Form;
-use node_check::check_connection;
+use node_commands::{FileFault, check_connection, file_opening};
+use node_journals::Form;
 use node_words::{Wanted, wanted_of};
-use opened_node::{OpenNode, open_node};
 use relay_core::OpenedCerts;
 use std::alloc::Global;
 use std::sync::Wait;
 use std::thread::Threads;
-use taos_lanes::{Lane, Worker, bench_of};
+use taos_lanes::{Lane, OpenNode, Worker, bench_of, open_node};
 use taos_monitor::Desk;
 
 /// A node that a file opened, with the room that its decisions take.

@@ -4,17 +4,13 @@ ghost use Rattle.std.specs.Prelude.{◌≡◌};
 ghost use Rattle.taos_node.specs.Stops.{status_of};
 
 use crate::stop::{stop_of, stop_status};
-use cert_mint::MintEnd;
-use command_file::FileFault;
 use drill_run::DrillEnd;
 use frame_link::Outcome;
-use node_audit::AuditEnd;
-use node_check::CheckEnd;
-use path_run::PathEnd;
-use replay_run::ReplayEnd;
+use node_commands::{CheckEnd, FileFault, MintEnd, PathEnd};
+use node_journals::{AuditEnd, ReplayEnd};
 
 /// How the lanes of a node ended.
-#[derive(Clone, Copy, Debug, PartialEq, Eq)]
+#[derive(Clone, Copy, PartialEq, Eq)]
 pub enum LanesEnd {
     /// The line of what was counted was written.
     Done,
@@ -27,7 +23,7 @@ pub enum LanesEnd {
 }
 
 /// How a run ended.
-#[derive(Clone, Copy, Debug, PartialEq, Eq)]
+#[derive(Clone, Copy, PartialEq, Eq)]
 pub enum Ending {
     /// The words are no command.
     Usage,

@@ -9,20 +9,18 @@ ghost use Rattle.taos_lanes.specs.Telling.{told_by};
 ghost use Rattle.taos_lanes.specs.declared.serving.TheConstants.{MAX_LANES};
 ghost use Rattle.taos_node.specs.Calls.{doors_by};
 ghost use Rattle.taos_node.specs.Status.{DoesDoors};
-ghost use Rattle.command_file.specs.Files.{FileHasCause, NodeFileGives};
+ghost use Rattle.node_commands.specs.Files.{FileHasCause, NodeFileGives};
 ghost use Rattle.taos_node.specs.Lanes.{LanesCauses, Prints, PrintsLine, ServesParts, lanes_words};
 ghost use Rattle.node_words.specs.Words.{Serve};
-ghost use Rattle.opened_node.specs.Opened.{IsNodeOf};
+ghost use Rattle.taos_lanes.specs.Opened.{IsNodeOf};
 
 use crate::ending::{Ending, LanesEnd};
-use command_file::{FileFault, file_opening};
-use count_lines::lanes_line;
 use frame_link::{Failed, Limits, Sink, Source, pour};
-use opened_node::open_parts;
+use node_commands::{FileFault, file_opening};
 use std::alloc::{AllocError, Global};
 use std::sync::Wait;
 use std::thread::Threads;
-use taos_lanes::{NodeParts, Served, Total, Worker, serve};
+use taos_lanes::{NodeParts, Served, Total, Worker, lanes_line, open_parts, serve};
 
 /// What the lanes of a node are to do: within the limits, with room for so many lemmas each, and
 /// with certificates that are fetched where `pulls` is set.

@@ -15,16 +15,13 @@ mod replay;
 mod stop;
 mod wallet;
 
-pub use cert_mint::{MintEnd, MintWord};
 pub use command::taos;
-pub use command_file::{FileFault, file_opening, file_wallet};
 pub use drill_run::DrillEnd;
 pub use ending::{Ending, LanesEnd, status_of};
 pub use frame_link::Outcome;
-pub use node_audit::AuditEnd;
+pub use node_commands::{FileFault, MintEnd, MintWord, PathEnd, file_opening, file_wallet};
+pub use node_journals::{AuditEnd, MAX_JOURNALS, ReplayEnd};
 pub use node_words::{Wanted, wanted_of};
 pub use note::tell;
-pub use path_run::PathEnd;
-pub use replay_run::{MAX_JOURNALS, ReplayEnd};
 pub use stop::{Stop, stop_of, stop_status};
 pub use taos_lanes::Lane;

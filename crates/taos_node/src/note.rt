@@ -7,9 +7,9 @@ ghost use Rattle.taos_node.specs.Notes.{IsNoted, cause_text, note_of, stop_note,
 use crate::ending::Ending;
 use crate::stop::{Stop, stop_of};
 use arrayvec::ArrayVec;
-use cert_mint::MintWord;
 use frame_link::{Sink, pour};
 use itoa::Buffer;
+use node_commands::MintWord;
 use node_file::FileCause;
 
 // A note has no more bytes than this.

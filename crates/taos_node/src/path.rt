@@ -7,10 +7,9 @@ ghost use Rattle.taos_node.specs.Calls.{touched};
 ghost use Rattle.taos_node.specs.Status.{EndsWithoutLanes};
 
 use crate::ending::Ending;
-use command_file::file_domains;
 use frame_link::{Sink, Source};
+use node_commands::{file_domains, pass};
 use node_words::Path;
-use path_run::pass;
 use std::alloc::Global;
 
 /// Passes the certificate of the input along the route, by the domains of a file.

@@ -7,9 +7,8 @@ ghost use Rattle.taos_node.specs.Status.{EndsWithoutLanes};
 ghost use Rattle.node_words.specs.Words.{Mint, Relay, mint_words};
 
 use crate::ending::Ending;
-use cert_mint::mint;
-use command_file::file_relay;
 use frame_link::{Sink, Source};
+use node_commands::{file_relay, mint};
 use node_words::Mint as MintAsked;
 use relay_core::serve_relay;
 use std::alloc::Global;

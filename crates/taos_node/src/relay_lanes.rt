@@ -13,13 +13,12 @@ ghost use Rattle.taos_node.specs.RelayLanes.{RelaysFile};
 
 use crate::ending::{Ending, LanesEnd};
 use crate::lanes::print_line;
-use command_file::file_relay;
-use count_lines::relays_line;
 use frame_link::{Limits, Sink, Source};
+use node_commands::file_relay;
 use node_file::RelayFile;
 use std::alloc::Global;
 use std::thread::Threads;
-use taos_lanes::{Worker, serve_relays};
+use taos_lanes::{Worker, relays_line, serve_relays};
 
 // Serves the doors of all lanes as a relay that knows this, and prints what was counted.
 fn serve_lanes<W: Threads + Sync, O: Sink, L: Worker + Send>(

@@ -6,9 +6,9 @@ ghost use Rattle.taos_node.specs.Calls.{touched};
 ghost use Rattle.taos_node.specs.Status.{EndsWithoutLanes};
 
 use crate::ending::Ending;
-use command_file::file_opening;
 use frame_link::{Sink, Source};
-use replay_run::replay_input;
+use node_commands::file_opening;
+use node_journals::replay_input;
 use std::alloc::Global;
 
 /// Judges the journals of the input beside the opening of a file.

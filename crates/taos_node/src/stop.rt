@@ -4,18 +4,14 @@ ghost use Rattle.std.specs.Prelude.{◌≡◌};
 ghost use Rattle.taos_node.specs.Stops.{audited_stop, checked_stop, drilled_stop, file_stop, lanes_stop, minted_stop, path_stop, replay_stop, served_stop, stop_of, stop_status};
 
 use crate::ending::{Ending, LanesEnd};
-use cert_mint::{MintEnd, MintWord};
-use command_file::FileFault;
 use drill_run::DrillEnd;
 use frame_link::Outcome;
-use node_audit::AuditEnd;
-use node_check::{CheckEnd, Finding};
+use node_commands::{CheckEnd, FileFault, Finding, MintEnd, MintWord, PathEnd};
 use node_file::FileCause;
-use path_run::PathEnd;
-use replay_run::ReplayEnd;
+use node_journals::{AuditEnd, ReplayEnd};
 
 /// What keeps a command from its good end: each has an exit status, and all but two a note.
-#[derive(Clone, Copy, Debug, PartialEq, Eq)]
+#[derive(Clone, Copy, PartialEq, Eq)]
 pub enum Stop {
     /// The words are no command.
     Usage,

@@ -6,9 +6,9 @@ ghost use Rattle.taos_node.specs.Status.{EndsWithoutLanes};
 ghost use Rattle.node_words.specs.Words.{Wallet};
 
 use crate::ending::Ending;
-use command_file::file_wallet;
 use cred_pull::serve_wallet;
 use frame_link::{Sink, Source};
+use node_commands::file_wallet;
 use std::alloc::Global;
 
 /// Serves a connection, of at most so many frames, by the wallet of a file.

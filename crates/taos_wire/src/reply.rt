@@ -12,7 +12,7 @@ pub const LAST_STATUS: u8 = 14;
 pub const MAX_CITED: u8 = 64;
 
 /// What a denial names.
-#[derive(Debug, Drop)]
+#[derive(Drop)]
 pub enum LinkSent {
     /// The entry would be reached but for the certificate with this digest, which has ended.
     Expired { entry: u8, digest: [u8; 32] },
@@ -26,7 +26,7 @@ pub enum LinkSent {
 
 /// What a node answers. A shard and a place are those of the journal entry that the answer was
 /// given at.
-#[derive(Debug, Drop)]
+#[derive(Drop)]
 pub enum Reply {
     /// The entry's right is given: `proof` is by the certificates `certs`, in the order of its
     /// cites, and was kept from an earlier request where `kept` is true.

@@ -22,7 +22,7 @@ const COMMONS_FULL: u8 = 12;
 const WITHDRAWN_FULL: u8 = 14;
 
 /// What a reply says before its tag of the request that it answers.
-#[derive(Clone, Copy, Debug, PartialEq, Eq)]
+#[derive(Clone, Copy, PartialEq, Eq)]
 pub struct ReplyHead {
     pub channel: u32,
     pub number: u64,

@@ -10,7 +10,7 @@ pub const MAX_CERTS: u8 = 16;
 /// What a channel asks: its number, the request's number in the channel's order, the principal
 /// that it quotes, the object, the operation, and the certificates that it presents, as bytes
 /// that are not opened yet.
-#[derive(Debug, Drop)]
+#[derive(Drop)]
 pub struct Request {
     pub channel: u32,
     pub seq: u64,

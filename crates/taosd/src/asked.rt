@@ -1,14 +1,13 @@
 //! The words that ask for a command of the node, and its work.
 
 use crate::ending::ended;
-use crate::ground::listen;
-use crate::lanes::{Setting, partners_of, serves_doors};
-use crate::own::own_of;
+use crate::serving::listen;
+use edge::{Setting, own_of, partners_of, serves_doors};
 use frame_link::Sink;
 use std::alloc::{AllocError, Global};
 use std::sync::Wait;
 use std::thread::Threads;
-use system_link::addresses_of;
+use system_io::addresses_of;
 use taos_node::{Ending, Wanted, wanted_of};
 
 // The file that a command reads.

@@ -1,5 +1,6 @@
 //! How the program ends: its exit status, and the last line.
 
+use edge::WalletEnd;
 use frame_link::Sink;
 use std::io;
 use std::io::{ErrorKind, Write};
@@ -24,6 +25,16 @@ pub fn not_begun<N: Sink>(rt: &HostRuntime, notes: &mut N, reason: &io::Error) -
     }
     let _ = writeln!(rt.stderr(), "taosd: not begun: {reason}");
     status_of(Ending::Lanes(LanesEnd::DoorFault { lane: 0 }))
+}
+
+/// Tells how a wallet that listened has ended, and gives its status.
+pub fn wallet_ended<N: Sink>(rt: &HostRuntime, notes: &mut N, end: WalletEnd) -> u8 {
+    match end {
+        WalletEnd::Usage => ended(notes, Ending::Usage),
+        WalletEnd::File(fault) => ended(notes, Ending::File(fault)),
+        WalletEnd::NotBegun(reason) => not_begun(rt, notes, &reason),
+        WalletEnd::Door { lane } => ended(notes, Ending::Lanes(LanesEnd::DoorFault { lane })),
+    }
 }
 
 /// How a command ends whose output has left, or has not: where it has not, nothing was done.

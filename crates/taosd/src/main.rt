@@ -2,25 +2,15 @@
 #![tactic(auto)]
 
 mod asked;
-mod checking;
-mod decisions;
-mod edge;
 mod ending;
-mod files;
-mod ground;
-mod keys;
 mod lanes;
-mod own;
-mod print;
+mod serving;
 mod showing;
-mod starting;
-mod telling;
-mod usage;
-mod wallets;
 mod work;
 
 use asked::run;
-use ending::ended;
+use edge::{USAGE, VERSION, serve_wallet_at};
+use ending::{ended, wallet_ended};
 use frame_link::{Sink, pour};
 use showing::{check_file, show, show_file, show_key};
 use std::env;
@@ -29,10 +19,8 @@ use std::io::ErrorKind;
 use std::process::ExitCode;
 use std::sync::Wait;
 use std::thread::Threads;
-use system_link::Writing;
+use system_io::Writing;
 use taos_node::Ending;
-use usage::{USAGE, VERSION};
-use wallets::serve_wallet_at;
 
 // The words behind the program's name, or how the run ends where there are none to be had.
 fn words_of(rt: &HostRuntime) -> Result<Vec<String>, Ending> {
@@ -66,7 +54,8 @@ fn answer<W: Threads + Wait + Sync, N: Sink>(
         },
         [word, path] if word.as_str() == "--print" => show_file(rt, path.as_str(), notes),
         [word, path, listening] if word.as_str() == "--wallet" => {
-            serve_wallet_at(rt, workers, path.as_str(), listening.as_str(), notes)
+            let end = serve_wallet_at(rt, workers, path.as_str(), listening.as_str());
+            wallet_ended(rt, notes, end)
         }
         [word, path] if word.as_str() == "--check-file" => check_file(rt, path.as_str(), notes),
         _ => run(rt, workers, words, notes),

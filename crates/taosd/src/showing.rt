@@ -1,12 +1,9 @@
 //! What the program prints of itself and of files, and serves nothing by.
 
-use crate::checking::line_of_file;
 use crate::ending::ended;
-use crate::files::file_of;
-use crate::keys::fresh_key;
-use crate::print::text_of;
+use edge::{file_of, fresh_key, line_of_file, text_of};
 use frame_link::{Sink, pour};
-use system_link::Writing;
+use system_io::Writing;
 use taos_node::{Ending, FileFault, Outcome, file_opening};
 
 // Where fresh keys come from.

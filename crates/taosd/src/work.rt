@@ -3,48 +3,16 @@
 ghost use Rattle.std.specs.Prelude.{◌<◌, ◌≤◌, length, vec_len};
 
 use crate::ending::{after_leaving, ended};
-use crate::files::file_of;
-use crate::lanes::{Setting, SystemLane, lanes_of};
-use crate::telling::{output_rounds, output_teller};
+use crate::lanes::{SystemLane, lanes_of};
+use edge::{Setting, asked_of, output_rounds, output_teller, waiting_of, watched_of};
 use frame_link::Sink;
-use std::fs::File;
-use std::io::{BufReader, Stderr, Stdin, Stdout};
+use node_telling::{Rounded, Telling};
 use std::net::{Net, TcpListener, TcpStream};
 use std::sync::{Arc, Wait};
 use std::thread::Threads;
 use std::{io, time};
-use system_link::{
-    Common, Deferred, Doorway, FileReading, Origin, Outbox, PIECE, Patient, Prompt, Reading,
-    Rounded, Telling, Watched, Writing, tell_readers,
-};
+use system_io::{Common, Deferred, Doorway, Reading, Writing};
 use taos_node::{Ending, taos};
-
-// What waits to be written on standard output.
-type Waiting = Outbox<Patient<Stdout, HostRuntime>>;
-
-// Standard input, before whose reads all leaves that waits.
-type Asked<'a> = BufReader<Prompt<'a, Patient<Stdin, HostRuntime>, Patient<Stdout, HostRuntime>>>;
-
-fn waiting_of(rt: &HostRuntime) -> io::Result<Waiting> {
-    Outbox::with_capacity(rt.alloc(), PIECE, Patient::new(rt.stdout(), *rt))
-}
-
-fn asked_of<'a>(rt: &HostRuntime, waiting: &'a Waiting) -> io::Result<Asked<'a>> {
-    let prompt = Prompt::new(Patient::new(rt.stdin(), *rt), waiting);
-    Ok(BufReader::with_capacity(rt.alloc(), PIECE, prompt)?)
-}
-
-// The file of a command. Who else may read it is told.
-fn watched_of<'a>(
-    rt: &HostRuntime,
-    path: &'a str,
-) -> Watched<'a, FileReading<'a, File, Stderr>, Stderr> {
-    let file = file_of(rt, path);
-    if let Origin::Open(open) = file.origin() {
-        tell_readers(&mut rt.stderr(), path, open);
-    }
-    Watched::new(rt.alloc(), file, path, rt.stderr())
-}
 
 // The work of a command, by these lanes. What is read and written is of the first.
 fn work<

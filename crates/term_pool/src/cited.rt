@@ -2,7 +2,7 @@ ghost use Rattle.std.specs.Prelude.{◌↔◌, IsTrue};
 ghost use Rattle.term_pool.specs.Claims.{IsSaying};
 
 /// A chosen certificate: its place, and its speaker and statement by their numbers.
-#[derive(Clone, Copy, Debug)]
+#[derive(Clone, Copy)]
 pub struct Cited {
     pub place: u16,
     pub speaker: u16,

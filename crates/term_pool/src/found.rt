@@ -9,7 +9,7 @@ ghost use Rattle.term_pool.specs.Finding.{IsCell, IsFirstOf, IsFound, facts_in, 
 use taos_calculus::{Fact, Line, Step};
 
 /// A statement by the numbers of its sides.
-#[derive(Clone, Copy, PartialEq, Eq, Debug)]
+#[derive(Clone, Copy, PartialEq, Eq)]
 pub struct Pair {
     pub left: u16,
     pub right: u16,

@@ -11,8 +11,6 @@ mod pass;
 mod rule;
 mod shares;
 mod steps;
-#[cfg(test)]
-mod tests;
 mod view;
 mod waiting;
 

@@ -22,7 +22,7 @@ use stmt_codec::Cert;
 use taos_calculus::Decide;
 
 /// What an Ask comes to that is judged.
-#[derive(Debug, Drop)]
+#[derive(Drop)]
 pub(crate) enum Settlement {
     /// By this entry of the list and this proof.
     Granted { entry: u8, cached: Arc<Cached> },

@@ -21,7 +21,7 @@ use stmt_codec::Cert;
 use taos_calculus::{Decide, MAX_CERTS};
 
 /// What was found about a request: the first entry that grants it, or what a denial names.
-#[derive(Clone, Copy, Debug, PartialEq, Eq)]
+#[derive(Clone, Copy, PartialEq, Eq)]
 pub enum Decision {
     Granted { entry: u8 },
     Denied(Link),

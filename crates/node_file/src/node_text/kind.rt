@@ -6,7 +6,7 @@ ghost use Rattle.node_file.specs.NodeLines.{kind_of};
 use file_lines::is_word;
 
 // What one line may say once of the whole node.
-#[derive(Clone, Copy, Debug)]
+#[derive(Clone, Copy)]
 pub(super) enum Setting {
     Node,
     Shards,
@@ -15,7 +15,7 @@ pub(super) enum Setting {
 }
 
 // What a line is about.
-#[derive(Clone, Copy, Debug)]
+#[derive(Clone, Copy)]
 pub(super) enum LineKind {
     Setting(Setting),
     Name,

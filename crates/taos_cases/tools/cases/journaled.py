@@ -5,7 +5,7 @@ longer ones is made is not laid down.
 """
 from conversation import Case
 from formats import DISCARD, FORGET, HOLD, LAST, SET_LIST, SWEEP, WITHDRAW, WRITE, DENIES, added, anchor_proof, ask_entry
-from formats import digest, discard_entry, expire_entry, forget_entry, grants, hits, hold_entry, in_role, journals, keep_entry, key
+from formats import digest, discard_entry, expire_entry, forget_entry, grants, hits, hold_entry, in_role, journals, keep_entry, key, lapsed
 from formats import list_of, no_room, object_entry, quoting, told_full, u16, u32, withdraw_entry
 from .beginning import CF, LATER
 from .nodes import ALICE, BOB, FOR_ALICE, OBJECT, ask, handed, handing, node
@@ -37,6 +37,10 @@ class Journal:
 
     def kept(self, place=0, entry=0):
         self.enter(keep_entry(place, PROOF, entry), f"keep ask {place} entry {entry} lease {LAST} -> kept")
+        return self
+
+    def ended(self, clock, place=0):
+        self.enter(keep_entry(place, PROOF, told=lapsed(clock, LAST)), f"keep ask {place} entry 0 lease {LAST} -> dropped lapsed {clock}")
         return self
 
     def held(self, bodies, count=None, full=None):
@@ -149,6 +153,8 @@ def timed():
          [Journal().asked(2, 1, bodies=[CF, ended]).asked(1, 1, 8).kept(1).withdrew(1, 2)], manages, [1000]),
         ("a withdrawal of what is gone by then", "It went with the sweep.", node(keep=10), [ask(2, 1, handed(until=500)), withdraw(1)],
          [Journal().asked(2, 1, bodies=[ended], reading=505).asked(1, 1, 8).kept(1).withdrew(1, 0)], manages, [505, 1000]),
+        ("a proof at the last moment", "It ends then, so it is not kept.", node(), [ask(1, 1)], [Journal().asked(1, 1, reading=LAST).ended(LAST)],
+         [Ruled().ruled(0)], [LAST]),
     ]
 
 

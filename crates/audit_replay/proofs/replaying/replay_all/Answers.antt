@@ -5,7 +5,7 @@ use Rattle.std.proofs.lemmas.Result.{err_from_is_err_and}
 use Rattle.object_core.specs.Objects.{ObjectSeen}
 use Rattle.object_core.specs.Shelving.{fixed_of}
 use Rattle.agent_core.specs.Journals.{ShardSeen}
-use Rattle.agent_core.specs.Opened.{new_shard}
+use Rattle.shard_core.specs.Opened.{new_shard}
 use Rattle.node_file.specs.Meaning.{opening}
 use Rattle.node_open.specs.Cells.{cells_of, its_plans}
 use Rattle.journal_bytes.specs.JournalsReading.{head_at, journals_in, objects_at}

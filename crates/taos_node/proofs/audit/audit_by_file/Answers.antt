@@ -4,11 +4,11 @@ use Rattle.taos_node.specs.Calls.{touched, first_of}
 use Rattle.taos_node.specs.Command.{FileFailsFor, audit_task}
 use Rattle.frame_link.specs.Streams.{Stream}
 use Rattle.node_file.specs.Opening.{Opening}
-use Rattle.command_file.specs.Files.{FileFails, node_means}
-use Rattle.opened_node.specs.Opened.{IsOpenedBy}
-use Rattle.node_audit.specs.declared.audit.Form.{Form}
-use Rattle.node_audit.specs.declared.audit.Form.TheVariants as form
-use Rattle.command_file.specs.declared.fault.FileFault.{FileFault}
+use Rattle.node_commands.specs.Files.{FileFails, node_means}
+use Rattle.taos_lanes.specs.Opened.{IsOpenedBy}
+use Rattle.node_journals.specs.declared.audit.Form.{Form}
+use Rattle.node_journals.specs.declared.audit.Form.TheVariants as form
+use Rattle.node_commands.specs.declared.fault.FileFault.{FileFault}
 use Rattle.taos_node.proofs.Endings.{audited}
 use Rattle.taos_node.proofs.Statuses.{refuses}
 use Rattle.taos_node.proofs.audit.audit_by_file.Goals as goal

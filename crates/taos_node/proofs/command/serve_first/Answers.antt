@@ -2,12 +2,12 @@
 use Rattle.std.proofs.Common.{slice_index_or, ap, map, refl, sym, arith}
 use Rattle.std.proofs.lemmas.List.{drop-set-lt}
 use Rattle.std.proofs.Math.Seq.{map-set_same}
-use Rattle.agent_core.specs.Alone.{seen_in, own_in}
+use Rattle.shard_core.specs.Alone.{seen_in, own_in}
 use Rattle.request_course.specs.Cells.{viewed, seen_of}
 use Rattle.request_course.specs.World.{Setting}
 use Rattle.object_core.specs.OneOwner.{seen_on, own_on}
 use Rattle.taos_node.specs.Calls.{first_of, used_of}
-use Rattle.opened_node.specs.Opened.{node_by, nothing_seen, seen_by}
+use Rattle.taos_lanes.specs.Opened.{node_by, nothing_seen, seen_by}
 use Rattle.taos_node.proofs.Commands.{touches, first_is, first_after, causes_by, complete_by}
 use Rattle.taos_node.proofs.command.serve_first.Goals as goal
 

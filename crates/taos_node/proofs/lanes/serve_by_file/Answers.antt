@@ -6,8 +6,8 @@ use Rattle.taos_node.specs.Calls.{touched, first_of}
 use Rattle.node_words.specs.Words.{Serve, serve_words}
 use Rattle.taos_node.proofs.LaneStatuses.{doors_tell, file_does, lanes_tell}
 use Rattle.taos_node.proofs.Commands.{decided_opened}
-use Rattle.command_file.proofs.Meant.{node_files}
-use Rattle.command_file.specs.Files.{IsNodeFile, node_means}
+use Rattle.node_commands.proofs.Meant.{node_files}
+use Rattle.node_commands.specs.Files.{IsNodeFile, node_means}
 use Rattle.taos_node.proofs.Statuses.{refuses}
 use Rattle.taos_node.proofs.lanes.serve_by_file.Goals as goal
 use Rattle.taos_node.proofs.Stopped.{lanes_status}

@@ -3,10 +3,10 @@ use Rattle.relay_path.specs.declared.domain.Domain.{Domain}
 use Rattle.relay_path.specs.Domains.{LinksAgree, knows}
 use Rattle.taos_node.specs.Calls.{touched}
 use Rattle.taos_node.specs.Command.{UsesNoLane}
-use Rattle.path_run.specs.Paths.{Passes}
+use Rattle.node_commands.specs.Paths.{Passes}
 use Rattle.node_words.specs.Words.{Path, path_words}
 use Rattle.taos_node.proofs.Endings.{passed}
-use Rattle.path_run.proofs.Standing.{stand_passes}
+use Rattle.node_commands.proofs.Standing.{stand_passes}
 use Rattle.taos_node.proofs.Statuses.{refuses}
 use Rattle.taos_node.proofs.path.path_by_file.Goals as goal
 

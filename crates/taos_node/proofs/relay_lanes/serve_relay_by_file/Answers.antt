@@ -6,8 +6,8 @@ use Rattle.taos_node.specs.Calls.{touched, first_of}
 use Rattle.node_words.specs.Words.{RelayServe}
 use Rattle.taos_node.proofs.LaneStatuses.{relay_doors_tell, relay_file_does, lanes_tell}
 use Rattle.taos_node.proofs.Commands.{decided_opened}
-use Rattle.command_file.proofs.Meant.{relay_files}
-use Rattle.command_file.specs.Files.{IsRelayFile, relay_means}
+use Rattle.node_commands.proofs.Meant.{relay_files}
+use Rattle.node_commands.specs.Files.{IsRelayFile, relay_means}
 use Rattle.taos_node.proofs.Statuses.{refuses}
 use Rattle.taos_node.proofs.relay_lanes.serve_relay_by_file.Goals as goal
 use Rattle.taos_node.proofs.Stopped.{lanes_status}

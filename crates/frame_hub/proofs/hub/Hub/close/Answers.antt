@@ -7,10 +7,12 @@ use Rattle.frame_hub.specs.declared.seat.Seat.{Seat}
 use Rattle.frame_hub.specs.declared.seat.Standing.TheVariants.{Free, Spent}
 use Rattle.frame_hub.proofs.Waiting.{has_place}
 use Rattle.frame_hub.proofs.Leaving.{closed_follows, spent_follows, forgotten, pushed}
+use Rattle.frame_hub.specs.Seating.{IsAbout, HasLeft}
+use Rattle.frame_hub.proofs.Seating.{closed_about, closed_left}
 use Rattle.frame_hub.proofs.hub.Hub.close.Goals as goal
 
-pub returns-in_default-clause-left : goal.returns-in_default-clause-left
-returns-in_default-clause-left c =
+pub returns-in_default-clause-closed : goal.returns-in_default-clause-closed
+returns-in_default-clause-closed c =
     let kept : Kept = c.args.self.now in
     let mid : Kept = c.leave_turns.new.self in
     let client : ℕ = c.args.client in
@@ -37,8 +39,8 @@ returns-in_default-clause-forgotten c =
     (subst (λ (s : Seat). IsForgotten (record mid { seats = set mid.seats k s }) client) (sym c.new.ensures)
     (forgotten kept mid client k client Spent mid.free place left within))
 
-pub returns-clause-left : goal.returns-clause-left
-returns-clause-left c =
+pub returns-clause-closed : goal.returns-clause-closed
+returns-clause-closed c =
     let kept : Kept = c.args.self.now in
     let mid : Kept = c.leave_turns.new.self in
     let client : ℕ = c.args.client in
@@ -78,3 +80,63 @@ returns-clause-forgotten c =
     subst (λ (v : Kept). IsForgotten (record v { seats = set v.seats k c.new-2.result; free = free }) client) (sym c.self.view_is)
     (subst (λ (s : Seat). IsForgotten (record mid { seats = set mid.seats k s; free = free }) client) (sym c.new-2.ensures)
     (forgotten kept mid client k next Free free place left within))
+
+pub returns-in_default-clause-about : goal.returns-in_default-clause-about
+returns-in_default-clause-about c =
+    let kept : Kept = c.args.self.now in
+    let mid : Kept = c.leave_turns.new.self in
+    let client : ℕ = c.args.client in
+    let k : ℕ = c.place_of-place.result in
+    let place = c.place_of-place.ensures.place in
+    let within = c.place_of-place.ensures.within in
+    let left = c.leave_turns.ensures in
+    let found = has_place kept.seats k within in
+    subst (λ (v : Kept). IsAbout client kept (record v { seats = set v.seats k c.new.result })) (sym c.self.view_is)
+    (subst (λ (s : Seat). IsAbout client kept (record mid { seats = set mid.seats k s })) (sym c.new.ensures)
+    (closed_about kept mid client k client Spent found.0 mid.free place found.1 c.requires left (λ taken. taken)))
+
+pub returns-in_default-clause-left : goal.returns-in_default-clause-left
+returns-in_default-clause-left c =
+    let kept : Kept = c.args.self.now in
+    let mid : Kept = c.leave_turns.new.self in
+    let client : ℕ = c.args.client in
+    let k : ℕ = c.place_of-place.result in
+    let place = c.place_of-place.ensures.place in
+    let within = c.place_of-place.ensures.within in
+    let left = c.leave_turns.ensures in
+    let found = has_place kept.seats k within in
+    subst (λ (v : Kept). HasLeft client (record v { seats = set v.seats k c.new.result })) (sym c.self.view_is)
+    (subst (λ (s : Seat). HasLeft client (record mid { seats = set mid.seats k s })) (sym c.new.ensures)
+    (closed_left kept mid client k client Spent found.0 mid.free place found.1 left (λ taken. taken)))
+
+pub returns-clause-about : goal.returns-clause-about
+returns-clause-about c =
+    let kept : Kept = c.args.self.now in
+    let mid : Kept = c.leave_turns.new.self in
+    let client : ℕ = c.args.client in
+    let k : ℕ = c.place_of-place.result in
+    let place = c.place_of-place.ensures.place in
+    let within = c.place_of-place.ensures.within in
+    let left = c.leave_turns.ensures in
+    let found = has_place kept.seats k within in
+    let next : ℕ = c.in-Some.next in
+    let free : List ℕ = c.push.new.self.items in
+    subst (λ (v : Kept). IsAbout client kept (record v { seats = set v.seats k c.new-2.result; free = free })) (sym c.self.view_is)
+    (subst (λ (s : Seat). IsAbout client kept (record mid { seats = set mid.seats k s; free = free })) (sym c.new-2.ensures)
+    (closed_about kept mid client k next Free found.0 free place found.1 c.requires left (λ taken. taken)))
+
+pub returns-clause-left : goal.returns-clause-left
+returns-clause-left c =
+    let kept : Kept = c.args.self.now in
+    let mid : Kept = c.leave_turns.new.self in
+    let client : ℕ = c.args.client in
+    let k : ℕ = c.place_of-place.result in
+    let place = c.place_of-place.ensures.place in
+    let within = c.place_of-place.ensures.within in
+    let left = c.leave_turns.ensures in
+    let found = has_place kept.seats k within in
+    let next : ℕ = c.in-Some.next in
+    let free : List ℕ = c.push.new.self.items in
+    subst (λ (v : Kept). HasLeft client (record v { seats = set v.seats k c.new-2.result; free = free })) (sym c.self.view_is)
+    (subst (λ (s : Seat). HasLeft client (record mid { seats = set mid.seats k s; free = free })) (sym c.new-2.ensures)
+    (closed_left kept mid client k next Free found.0 free place found.1 left (λ taken. taken)))

@@ -1,23 +1,14 @@
--- The seat is the client's, and it said its last.
-use Rattle.std.proofs.Common.{◌≡◌, ℕ, ◌%◌, ◌<◌, [], ◌∷◌, length, sym, subst}
+-- It said its last, and is let go where it is through.
+use Rattle.std.proofs.Common.{[], ◌∷◌}
 use Rattle.frame_hub.specs.Events.{Ended}
-use Rattle.frame_hub.specs.Kept.{Kept}
-use Rattle.frame_hub.specs.Calls.{Follows, IsHeard}
-use Rattle.frame_hub.specs.declared.seat.Seat.{Seat}
-use Rattle.frame_hub.specs.declared.seat.Standing.TheVariants.{Ended as EndedStanding}
-use Rattle.frame_hub.proofs.Filing.{with_seat}
-use Rattle.frame_hub.proofs.Calling.{read_at, ended_follows}
+use Rattle.frame_hub.proofs.Seating.{let_keeps, let_others}
 use Rattle.frame_hub.proofs.hub.Hub.ended.Goals as goal
 
-pub returns : goal.returns
-returns c =
-    let h = c.self.inside in
-    let kept : Kept = record { seats = h.seats.items; lanes = h.lanes.items; free = h.free.items; place = h.place } in
-    let seat : Seat = c.index_mut.result.now in
-    let k : ℕ = c.place_of-place.result in
-    let client : ℕ = c.args.client in
-    let place = subst (λ (v : Kept). k ≡ client % length v.seats) (sym c.self.view_is) c.place_of-place.ensures.place in
-    let within = subst (λ (v : Kept). k < length v.seats) (sym c.self.view_is) c.place_of-place.ensures.within in
-    let here = subst (λ (v : Kept). IsHeard v client) (sym c.self.view_is) c.requires in
-    subst (λ (v : Kept). Follows v (with_seat kept k (record seat { standing = EndedStanding })) (Ended client ∷ [])) c.self.view_is
-    (ended_follows kept client k seat place (read_at h.seats.items k seat within c.index_mut.ensures.value) here)
+pub returns-clause-keeps : goal.returns-clause-keeps
+returns-clause-keeps c =
+    let_keeps c.args.client (Ended c.args.client ∷ []) c.args.self.now c.hear_last.new.self c.let_go.new.self c.let_go.result
+    c.hear_last.ensures.last c.hear_last.ensures.here c.let_go.ensures
+
+pub returns-clause-others : goal.returns-clause-others
+returns-clause-others c =
+    let_others c.args.client c.args.self.now c.hear_last.new.self c.let_go.new.self c.let_go.result c.hear_last.ensures.about c.let_go.ensures

@@ -1,23 +1,14 @@
--- The seat is the client's, and it failed.
-use Rattle.std.proofs.Common.{◌≡◌, ℕ, ◌%◌, ◌<◌, [], ◌∷◌, length, sym, subst}
-use Rattle.frame_hub.specs.Events.{Failed}
-use Rattle.frame_hub.specs.Kept.{Kept, IsHere}
-use Rattle.frame_hub.specs.Calls.{Follows}
-use Rattle.frame_hub.specs.declared.seat.Seat.{Seat}
-use Rattle.frame_hub.specs.declared.seat.Standing.TheVariants.{Lost}
-use Rattle.frame_hub.proofs.Filing.{with_seat}
-use Rattle.frame_hub.proofs.Calling.{read_at, failed_follows}
+-- Who failed is let go at once.
+use Rattle.std.proofs.Common.{[], ◌∷◌}
+use Rattle.frame_hub.specs.Events.{Failed, Closed}
+use Rattle.frame_hub.proofs.Seating.{follows_on, about_then, gone_others}
 use Rattle.frame_hub.proofs.hub.Hub.failed.Goals as goal
 
-pub returns : goal.returns
-returns c =
-    let h = c.self.inside in
-    let kept : Kept = record { seats = h.seats.items; lanes = h.lanes.items; free = h.free.items; place = h.place } in
-    let seat : Seat = c.index_mut.result.now in
-    let k : ℕ = c.place_of-place.result in
-    let client : ℕ = c.args.client in
-    let place = subst (λ (v : Kept). k ≡ client % length v.seats) (sym c.self.view_is) c.place_of-place.ensures.place in
-    let within = subst (λ (v : Kept). k < length v.seats) (sym c.self.view_is) c.place_of-place.ensures.within in
-    let here = subst (λ (v : Kept). IsHere v client) (sym c.self.view_is) c.requires in
-    subst (λ (v : Kept). Follows v (with_seat kept k (record seat { standing = Lost })) (Failed client ∷ [])) c.self.view_is
-    (failed_follows kept client k seat place (read_at h.seats.items k seat within c.index_mut.ensures.value) here)
+pub returns-clause-gone : goal.returns-clause-gone
+returns-clause-gone c =
+    follows_on c.args.self.now c.lose.new.self c.close.new.self (Failed c.args.client ∷ []) (Closed c.args.client ∷ []) c.lose.ensures.failed c.close.ensures.closed
+
+pub returns-clause-others : goal.returns-clause-others
+returns-clause-others c =
+    gone_others c.args.client c.args.self.now c.close.new.self
+    (about_then c.args.client c.args.self.now c.lose.new.self c.close.new.self c.lose.ensures.about c.close.ensures.about) c.close.ensures.left

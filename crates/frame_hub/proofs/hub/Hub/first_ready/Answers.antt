@@ -49,6 +49,7 @@ pub loop-client-preserved : goal.loop-client-preserved
 loop-client-preserved c = record {
   follows = follows_then c.args.self.now c.loop-client.self c.pass_turn.new.self [] c.loop-client.invariant.follows c.pass_turn.ensures.passed;
   room = λ room. c.pass_turn.ensures.room (c.loop-client.invariant.room room);
+  seats = λ k. c.pass_turn.ensures.seats k ∙ c.loop-client.invariant.seats k;
 }
 
 pub returns-clause-first : goal.returns-clause-first

@@ -1,5 +1,5 @@
 -- The first that is ready gives its frame.
-use Rattle.std.proofs.Common.{ℕ, ◌+◌, ◌<◌, List, [], ◌∷◌, sym, subst, arith, Some, false}
+use Rattle.std.proofs.Common.{ℕ, ◌+◌, ◌<◌, List, [], ◌∷◌, sym, subst, refl, arith, Some, false}
 use Rattle.frame_hub.specs.Events.{Took}
 use Rattle.frame_hub.specs.Kept.{Kept}
 use Rattle.frame_hub.specs.Calls.{Follows, Settles, HasRoom, HasFirstTurn}
@@ -8,6 +8,8 @@ use Rattle.frame_hub.specs.declared.seat.Seat.{Seat}
 use Rattle.frame_hub.proofs.Turning.{with_both}
 use Rattle.frame_hub.proofs.Calling.{read_at}
 use Rattle.frame_hub.proofs.Passing.{follows_then, took_follows, ready_seat, ready_place, ready_room}
+use Rattle.frame_hub.specs.Seating.{IsAboutNobody}
+use Rattle.frame_hub.proofs.Seating.{all_here, busy_stays, leaves_all, nobody_moves, nobody_then}
 use Rattle.frame_hub.proofs.hub.Hub.next.Goals as goal
 
 pub take-requires-clause-whole : goal.take-requires-clause-whole
@@ -81,7 +83,32 @@ returns-clause-taken c =
     let payload : List ℕ = c.take.new.out.items in
     let inbox : List ℕ = c.take.new.self in
     let mid : Seat = record seat { inbox = inbox; under_way = seat.under_way + 1; route = Some (record { lane = lane; queued = false }) } in
-    let settles = subst (λ (q : Queues). Settles k (with_both kept k mid lane q) c.queue.new.self) c.take-2.ensures c.queue.ensures in
+    let settles = subst (λ (q : Queues). Settles k (with_both kept k mid lane q) c.queue.new.self) c.take-2.ensures c.queue.ensures.settles in
     follows_then c.args.self.now c.first_ready.new.self c.queue.new.self (Took lane seat.client payload ∷ []) c.first_ready.ensures.passed
     (subst (λ (v : Kept). Follows v c.queue.new.self (Took lane seat.client payload ∷ [])) c.self.view_is
     (took_follows kept c.queue.new.self lane k size seat l payload inbox c.self.invariant.0 at lane_at ready c.take.ensures.frame c.take.ensures.size settles))
+
+pub returns-in_default-clause-seats : goal.returns-in_default-clause-seats
+returns-in_default-clause-seats c =
+    leaves_all c.args.self.now c.first_ready.new.self
+    (all_here c.args.self.now c.first_ready.new.self c.first_ready.ensures.passed.size.seats c.first_ready.ensures.seats)
+
+pub returns-clause-seats : goal.returns-clause-seats
+returns-clause-seats c =
+    let h = c.self.inside in
+    let kept : Kept = record { seats = h.seats.items; lanes = h.lanes.items; free = h.free.items; place = h.place } in
+    let lane : ℕ = c.args.lane in
+    let k : ℕ = c.in-Some.place in
+    let size : ℕ = c.in-Some.size in
+    let seat : Seat = c.index_mut-seat.result.now in
+    let ready = subst (λ (v : Kept). HasFirstTurn lane v k size) (sym c.self.view_is) c.in-Some.ensures.first in
+    let places = ready_place kept lane k size ready in
+    let at = read_at h.seats.items k seat places.0 c.index_mut-seat.ensures.value in
+    let mid : Seat = record seat { inbox = c.take.new.self; under_way = seat.under_way + 1; route = Some (record { lane = lane; queued = false }) } in
+    let well = (ready_seat kept lane k size seat at ready).well in
+    let passed = all_here c.args.self.now c.first_ready.new.self c.first_ready.ensures.passed.size.seats c.first_ready.ensures.seats in
+    let moved = nobody_moves kept c.queue.new.self k seat mid at refl refl
+    (λ leaves. absurd (busy_stays mid well (λ idle. omega (arith, idle.answered)) leaves)) c.queue.ensures.settles.size.seats c.queue.ensures.seats in
+    leaves_all c.args.self.now c.queue.new.self
+    (nobody_then c.args.self.now c.first_ready.new.self c.queue.new.self passed
+    (subst (λ (v : Kept). IsAboutNobody v c.queue.new.self) c.self.view_is moved))

@@ -7,6 +7,8 @@ use Rattle.frame_hub.specs.declared.seat.Seat.{Seat}
 use Rattle.frame_hub.specs.declared.seat.Standing.TheVariants.{Open}
 use Rattle.frame_hub.proofs.Calling.{read_at}
 use Rattle.frame_hub.proofs.Leaving.{opened_follows}
+use Rattle.frame_hub.specs.Seating.{Seats}
+use Rattle.frame_hub.proofs.Seating.{opened_seats}
 use Rattle.frame_hub.proofs.hub.Hub.opened.Goals as goal
 
 pub returns-clause-came : goal.returns-clause-came
@@ -19,3 +21,14 @@ returns-clause-came c =
     let within = (All-pop (λ (p : ℕ). p < length h.seats.items) h.free.items free (Some k) c.in-Some.ensures.items c.self.invariant.4).1 in
     subst (λ (v : Kept). Opens v (record kept { seats = set kept.seats k (record seat { standing = Open }); free = free }) seat.client) c.self.view_is
     (opened_follows kept free k seat c.in-Some.ensures.items (read_at h.seats.items k seat within c.index_mut-seat.ensures.value))
+
+pub returns-clause-seats : goal.returns-clause-seats
+returns-clause-seats c =
+    let h = c.self.inside in
+    let kept : Kept = record { seats = h.seats.items; lanes = h.lanes.items; free = h.free.items; place = h.place } in
+    let k : ℕ = c.in-Some.place in
+    let seat : Seat = c.index_mut-seat.result.now in
+    let free : List ℕ = c.pop.new.self.items in
+    let within = (All-pop (λ (p : ℕ). p < length h.seats.items) h.free.items free (Some k) c.in-Some.ensures.items c.self.invariant.4).1 in
+    subst (λ (v : Kept). Seats v (record kept { seats = set kept.seats k (record seat { standing = Open }); free = free }) seat.client) c.self.view_is
+    (opened_seats kept free k seat c.in-Some.ensures.items (read_at h.seats.items k seat within c.index_mut-seat.ensures.value))

@@ -14,14 +14,14 @@ use Rattle.frame_hub.proofs.Queueing.{settled, joined_settles, stray_settles}
 use Rattle.frame_hub.proofs.hub.Hub.queue.Goals as goal
 use Rattle.frame_hub.proofs.hub.Hub.queue.Goals.{in-Some-get_mut, in_default-get_mut}
 
-pub returns-in_default : goal.returns-in_default
-returns-in_default c =
+pub returns-in_default-clause-settles : goal.returns-in_default-clause-settles
+returns-in_default-clause-settles c =
     let kept : Kept = c.args.self.now in
     let found = has_place kept.seats c.args.place c.requires in
     settled kept c.args.place found.0 found.1 c.in_default.ensures
 
-pub returns : goal.returns
-returns c =
+pub returns-clause-settles : goal.returns-clause-settles
+returns-clause-settles c =
     let h = c.self.inside in
     let kept : Kept = record { seats = h.seats.items; lanes = h.lanes.items; free = h.free.items; place = h.place } in
     let k : ℕ = c.args.place in

@@ -1,41 +1,27 @@
--- The bytes are in the inbox, or the client has failed.
-use Rattle.std.proofs.Common.{◌≡◌, ℕ, ◌%◌, ◌<◌, ◌++◌, List, [], ◌∷◌, length, sym, subst, rules}
-use Rattle.frame_hub.specs.Events.{Received, Failed}
-use Rattle.frame_hub.specs.Kept.{Kept}
-use Rattle.frame_hub.specs.Calls.{Follows, IsHeard}
-use Rattle.frame_hub.specs.declared.seat.Seat.{Seat}
-use Rattle.frame_hub.specs.declared.seat.Standing.TheVariants.{Lost}
-use Rattle.frame_hub.proofs.Filing.{with_seat}
-use Rattle.frame_hub.proofs.Calling.{read_at, heard_here, failed_follows, received_follows}
+-- The bytes came, and who is through is let go.
+use Rattle.std.proofs.Common.{[], ◌∷◌, rules}
+use Rattle.frame_hub.specs.Events.{Received, Failed, Closed}
+use Rattle.frame_hub.specs.Kept.{IsHere}
+use Rattle.frame_hub.specs.Calls.{Follows}
+use Rattle.frame_hub.proofs.Seating.{follows_on, about_then, gone_others, let_keeps, let_others}
 use Rattle.frame_hub.proofs.hub.Hub.received.Goals as goal
 
 pub returns-then-is_err-clause-no_memory : goal.returns-then-is_err-clause-no_memory
 returns-then-is_err-clause-no_memory c =
-    let h = c.self.inside in
-    let kept : Kept = record { seats = h.seats.items; lanes = h.lanes.items; free = h.free.items; place = h.place } in
-    let seat : Seat = c.index_mut-seat.result.now in
-    let k : ℕ = c.place_of-place.result in
-    let client : ℕ = c.args.client in
-    let place = subst (λ (v : Kept). k ≡ client % length v.seats) (sym c.self.view_is) c.place_of-place.ensures.place in
-    let within = subst (λ (v : Kept). k < length v.seats) (sym c.self.view_is) c.place_of-place.ensures.within in
-    let at = read_at h.seats.items k seat within c.index_mut-seat.ensures.value in
-    let heard = subst (λ (v : Kept). IsHeard v client) (sym c.self.view_is) c.requires.heard in
-    let same : c.push.new.self ≡ seat.inbox = search rules in
-    subst (λ (v : Kept). Follows v (with_seat kept k (record seat { standing = Lost; inbox = c.push.new.self })) (Failed client ∷ [])) c.self.view_is
-    (subst (λ (i : List ℕ). Follows kept (with_seat kept k (record seat { standing = Lost; inbox = i })) (Failed client ∷ [])) (sym same)
-    (failed_follows kept client k seat place at (heard_here kept client k seat place at heard)))
+    let failed : Follows c.args.self.now c.hear_bytes.new.self (Failed c.args.client ∷ []) = search rules in
+    follows_on c.args.self.now c.hear_bytes.new.self c.close.new.self (Failed c.args.client ∷ []) (Closed c.args.client ∷ []) failed c.close.ensures.closed
+
+pub returns-then-is_err-clause-others : goal.returns-then-is_err-clause-others
+returns-then-is_err-clause-others c =
+    gone_others c.args.client c.args.self.now c.close.new.self
+    (about_then c.args.client c.args.self.now c.hear_bytes.new.self c.close.new.self c.hear_bytes.ensures.about c.close.ensures.about) c.close.ensures.left
 
 pub returns-clause-came : goal.returns-clause-came
 returns-clause-came c =
-    let h = c.self.inside in
-    let kept : Kept = record { seats = h.seats.items; lanes = h.lanes.items; free = h.free.items; place = h.place } in
-    let seat : Seat = c.index_mut-seat.result.now in
-    let k : ℕ = c.place_of-place.result in
-    let client : ℕ = c.args.client in
-    let place = subst (λ (v : Kept). k ≡ client % length v.seats) (sym c.self.view_is) c.place_of-place.ensures.place in
-    let within = subst (λ (v : Kept). k < length v.seats) (sym c.self.view_is) c.place_of-place.ensures.within in
-    let at = read_at h.seats.items k seat within c.index_mut-seat.ensures.value in
-    let heard = subst (λ (v : Kept). IsHeard v client) (sym c.self.view_is) c.requires.heard in
-    let more : c.push.new.self ≡ seat.inbox ++ c.args.bytes.now = search rules in
-    subst (λ (v : Kept). Follows v c.queue.new.self (Received client c.args.bytes.now ∷ [])) c.self.view_is
-    (received_follows kept c.queue.new.self client k seat c.args.bytes.now c.push.new.self place at heard more c.queue.ensures)
+    let came : Follows c.args.self.now c.hear_bytes.new.self (Received c.args.client c.args.bytes.now ∷ []) = search rules in
+    let here : IsHere c.hear_bytes.new.self c.args.client = search rules in
+    let_keeps c.args.client (Received c.args.client c.args.bytes.now ∷ []) c.args.self.now c.hear_bytes.new.self c.let_go.new.self c.let_go.result came here c.let_go.ensures
+
+pub returns-clause-others : goal.returns-clause-others
+returns-clause-others c =
+    let_others c.args.client c.args.self.now c.hear_bytes.new.self c.let_go.new.self c.let_go.result c.hear_bytes.ensures.about c.let_go.ensures

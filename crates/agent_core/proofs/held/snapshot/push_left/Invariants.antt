@@ -1,7 +1,0 @@
-use Rattle.std.proofs.Common.{◌≡◌, ◌++◌, take}
-use Rattle.stmt_codec.specs.View.{certificates}
-use Rattle.agent_core.specs.Kept.{certs_staying}
-use Rattle.agent_core.proofs.held.snapshot.push_left.Given as goal
-
-abbrev pub invariant-loop-at : goal.invariant-loop-at
-invariant-loop-at l = certificates l.out.items ≡ certificates l.initial.out.items ++ certs_staying l.book l.removal (take l.at l.names.items)

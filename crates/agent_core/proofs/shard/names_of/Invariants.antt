@@ -1,6 +1,0 @@
-use Rattle.std.proofs.Common.{◌≡◌}
-use Rattle.agent_core.specs.Kept.{first_names}
-use Rattle.agent_core.proofs.shard.names_of.Given as goal
-
-abbrev pub invariant-loop-place : goal.invariant-loop-place
-invariant-loop-place l = l.names.items ≡ first_names l.place

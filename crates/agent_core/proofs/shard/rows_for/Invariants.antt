@@ -1,5 +1,0 @@
-use Rattle.agent_core.specs.Kept.{AreNew}
-use Rattle.agent_core.proofs.shard.rows_for.Given as goal
-
-abbrev pub invariant-loop-i : goal.invariant-loop-i
-invariant-loop-i l = AreNew l.rows.items l.i

@@ -1,6 +1,0 @@
-use Rattle.std.proofs.Common.{◌≡◌, take}
-use Rattle.stmt_codec.specs.View.{certificates}
-use Rattle.agent_core.proofs.shard.sharing.handles_to.Given as goal
-
-abbrev pub invariant-loop-place : goal.invariant-loop-place
-invariant-loop-place l = certificates l.handles.items ≡ certificates (take l.place l.certs)

@@ -1,6 +1,0 @@
-use Rattle.std.proofs.Common.{◌≡◌, ◌*◌, ◌^◌, ◌≤◌, take}
-use Rattle.count_lines.specs.Summary.{entries_of}
-use Rattle.count_lines.proofs.summary.entries_in.Given as goal
-
-abbrev pub invariant-loop-shard : goal.invariant-loop-shard
-invariant-loop-shard l = (l.count ≡ entries_of (take l.shard-index l.fn.shards)) × (l.count ≤ l.shard-index * 2 ^ 64)

@@ -1,5 +1,0 @@
-use Rattle.drill_journal.proofs.Knowing.{load_journal}
-use Rattle.drill_journal.proofs.courses.shards_are_loads.Goals as goal
-
-pub returns : goal.returns
-returns c d n fits node J works s below = load_journal d fits n node J works s below

@@ -1,5 +1,0 @@
-use Rattle.node_check.proofs.OneInput as law
-use Rattle.node_check.proofs.check.one_check.Goals as goal
-
-pub returns : goal.returns
-returns c = λ o bytes x y a b s t. law.one_check o bytes x y a b s t

@@ -1,0 +1,9 @@
+pub mod Entries
+pub mod Looked
+pub mod Meant
+pub mod Minted
+pub mod OneFinding
+pub mod OneInput
+pub mod Paths
+pub mod SameFindings
+pub mod Standing

@@ -1,0 +1,5 @@
+pub mod Checking
+pub mod Files
+pub mod Findings
+pub mod Minting
+pub mod Paths

@@ -1,0 +1,3 @@
+pub mod Audit
+pub mod AuditOf
+pub mod Replaying

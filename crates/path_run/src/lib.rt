@@ -1,6 +1,0 @@
-//! A certificate that is passed along a route of domains.
-#![tactic(auto)]
-
-mod path;
-
-pub use path::{PathEnd, pass};

@@ -1,0 +1,23 @@
+pub mod NamesLeft
+pub mod Among
+pub mod Searching
+pub mod Rows
+pub mod Places
+pub mod Stores
+pub mod TakingIn
+mod Withdrawing
+pub mod KeptMore
+pub mod Channels
+pub mod Changing
+pub mod Bringing
+pub mod Judging
+pub mod Looks
+pub mod Opening
+pub mod AllOpened
+pub mod Stepping
+pub mod Serving
+pub mod Firsts
+pub mod Keepable
+pub mod Keeps
+pub mod NewAsks
+pub mod OneOwner

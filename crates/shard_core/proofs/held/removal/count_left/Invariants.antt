@@ -1,0 +1,9 @@
+use Rattle.std.proofs.Common.{◌≡◌, ◌≤◌, length, filter, take}
+use Rattle.shard_core.specs.Kept.{name_stays}
+use Rattle.shard_core.proofs.held.removal.count_left.Given as goal
+
+abbrev pub invariant-loop-place : goal.invariant-loop-place
+invariant-loop-place l = record {
+  count_is : l.count ≡ length (filter (name_stays l.book l.removal) (take l.place l.names.items));
+  few : l.count ≤ l.place;
+}

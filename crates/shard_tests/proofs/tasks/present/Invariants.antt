@@ -1,5 +1,0 @@
-use Rattle.shard_tests.specs.Seats.{HasChannel}
-use Rattle.shard_tests.proofs.tasks.present.Given as goal
-
-abbrev pub invariant-loop-more : goal.invariant-loop-more
-invariant-loop-more g l = HasChannel (g.S.Shards.shown l.shards).plans 2

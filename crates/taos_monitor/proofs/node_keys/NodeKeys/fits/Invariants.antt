@@ -1,7 +1,0 @@
-use Rattle.std.proofs.Common.{◌≡◌, ℕ, ◌<◌, List, Some, slice_get}
-use Rattle.agent_core.specs.Alone.{plans_in}
-use Rattle.taos_monitor.specs.Planned.{IsPlanned}
-use Rattle.taos_monitor.proofs.node_keys.NodeKeys.fits.Given as goal
-
-abbrev pub invariant-loop-place : goal.invariant-loop-place
-invariant-loop-place l = (k : ℕ) (e : ℕ × List ℕ) → k < l.place → slice_get l.self.channels.entries k ≡ Some e → IsPlanned (plans_in l.shards.shards) e.0
