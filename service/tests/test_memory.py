@@ -1,5 +1,4 @@
 """Memory of `--clients`: what a flood without a key may take, that it is given back, and seats where memory is refused."""
-import ctypes
 import multiprocessing
 import resource
 import time
@@ -8,19 +7,12 @@ import peers
 from nodes import A_CLIENT, A_LANE, BESIDE, KEPT, MIB, Case, channels, is_granted, waits_for
 
 SECONDS, PEERS = 3, 16
-# Of `prctl`: a process whose memory comes in small pages alone, however the machine is set, so that what it uses is what it asked for.
-NO_HUGE_PAGES = 41
 FLOODS = {
     "the longest frames": [peers.unsealed(channel) * 30 for channel in (1, 2)],
     "frames of many sizes": [peers.unsealed(channel, size) * (2 * MIB // size) for channel in (1, 2) for size in (65536, 40000, 9000, 900)],
     "frames of no channel": [peers.frame(b"\3" + bytes(3) + bytes([98 + lane]) + bytes(65531)) * 30 for lane in (0, 1)],
     "empty frames": [bytes(160_000)],
 }
-
-
-def small_pages():
-    """Lets a program that is about to begin have small pages alone."""
-    ctypes.CDLL(None).prctl(NO_HUGE_PAGES, 1, 0, 0, 0)
 
 
 def floods(port, pieces, sent):
@@ -38,7 +30,7 @@ class Lane(Case):
                     self.floods(lanes, pieces)
 
     def floods(self, lanes, pieces):
-        node = self.serving(lanes=lanes, options=["--clients", "100", "--tell-refusals"], preexec_fn=small_pages)
+        node = self.serving(lanes=lanes, options=["--clients", "100", "--tell-refusals"])
         channel = channels()[0]
         self.assert_is_ready(node, channel)
         client = node.client(channel)
