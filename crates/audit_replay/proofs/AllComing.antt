@@ -17,7 +17,7 @@ use Rattle.agent_core.specs.Journals.{ShardSeen}
 use Rattle.shard_core.specs.Opened.{new_shard}
 use Rattle.agent_core.specs.Plans.{AreShards, IsPlan}
 use Rattle.agent_core.specs.State.{Plan}
-use Rattle.node_open.specs.Cells.{Cells, new_object}
+use Rattle.shard_core.specs.Cells.{Cells, new_object}
 use Rattle.journal_bytes.specs.JournalsReading.{head_at, journals_in, objects_at, shards_at}
 use Rattle.journal_bytes.specs.Spelled.{Journals}
 use Rattle.journal_bytes.proofs.JournalLaws.{journals_take}

@@ -10,7 +10,7 @@ use Rattle.agent_core.specs.declared.told.Told.{Told}
 use Rattle.agent_core.specs.Journals.{Entry, entry}
 use Rattle.agent_core.specs.State.{Plan, Ask, Asks}
 use Rattle.agent_core.proofs.Asks.{standing}
-use Rattle.node_open.specs.Cells.{Cells}
+use Rattle.shard_core.specs.Cells.{Cells}
 use Rattle.journal_bytes.specs.Events.{ask_there}
 use Rattle.audit_replay.specs.declared.due.Due.{Due}
 use Rattle.audit_replay.specs.declared.stepping.ShardReplay.{ShardReplay}

@@ -11,7 +11,7 @@ use Rattle.object_core.specs.Objects.{ObjectEntry}
 use Rattle.object_core.specs.Shelving.{ObjectFixed}
 use Rattle.agent_core.specs.Journals.{Entry}
 use Rattle.agent_core.proofs.AtPlaces.{slice_at}
-use Rattle.node_open.specs.Cells.{Cells}
+use Rattle.shard_core.specs.Cells.{Cells}
 use Rattle.journal_bytes.specs.Spelled.{ObjectJournal, numbered}
 use Rattle.audit_replay.specs.declared.replayed.ReplayCause.{ReplayCause}
 use Rattle.audit_replay.specs.Legal.{AreRuled, IsRuled, IsRuledObject, all_named, named}

@@ -12,7 +12,7 @@ use Rattle.object_core.specs.Objects.{ObjectEntry, ObjectSeen}
 use Rattle.object_core.specs.Shelving.{ObjectFixed, fixed_of}
 use Rattle.agent_core.proofs.Journaling.{slice_front}
 use Rattle.agent_core.proofs.AtPlaces.{slice_at}
-use Rattle.node_open.specs.Cells.{Cells}
+use Rattle.shard_core.specs.Cells.{Cells}
 use Rattle.journal_bytes.specs.JournalsReading.{IsLeastAbove, object_at, object_by, objects_at, rulings_at}
 use Rattle.journal_bytes.specs.Reading.{ruled_at}
 use Rattle.journal_bytes.specs.Spelled.{ObjectJournal, SpelledEntry, numbered}

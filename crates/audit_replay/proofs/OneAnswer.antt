@@ -4,7 +4,7 @@ use Rattle.std.proofs.lemmas.List.{length-map}
 use Rattle.byte_fields.specs.declared.fault.FormatFault.{FormatFault}
 use Rattle.byte_fields.specs.declared.fault.FormatFault.TheVariants.{Malformed}
 use Rattle.agent_core.specs.Journals.{Entry}
-use Rattle.node_open.specs.Cells.{Cells}
+use Rattle.shard_core.specs.Cells.{Cells}
 use Rattle.journal_bytes.specs.JournalsReading.{journals_in}
 use Rattle.journal_bytes.specs.Spelled.{Journals, ObjectJournal, SpelledEntry, spelled}
 use Rattle.journal_bytes.proofs.JournalLaws.{journals_again, spelled_once}

@@ -9,7 +9,7 @@ use Rattle.std.specs.Int.{w32, w64, to_be_bytes}
 use Rattle.object_core.specs.Objects.{ObjectEntry, ObjectSeen}
 use Rattle.agent_core.specs.Journals.{Entry}
 use Rattle.agent_core.specs.State.{Plan}
-use Rattle.node_open.specs.Cells.{Cells}
+use Rattle.shard_core.specs.Cells.{Cells}
 use Rattle.object_core.specs.Spelling.{kind_of, op_fields}
 use Rattle.journal_bytes.specs.Spelled.{ObjectJournal, SpelledEntry}
 use Rattle.journal_bytes.specs.Spelling.{entry_bytes, ruled_bytes, ruling_bytes}

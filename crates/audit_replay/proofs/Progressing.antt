@@ -9,7 +9,7 @@ use Rattle.object_core.specs.Objects.{ObjectEntry, ObjectSeen}
 use Rattle.object_core.specs.Shelving.{ObjectFixed, fixed_of}
 use Rattle.agent_core.specs.State.{Plan}
 use Rattle.agent_core.specs.Journals.{Entry, IsLegalJournal}
-use Rattle.node_open.specs.Cells.{Cells}
+use Rattle.shard_core.specs.Cells.{Cells}
 use Rattle.journal_bytes.specs.Spelled.{Journals, ObjectJournal, SpelledEntry, numbered, spelled}
 use Rattle.audit_replay.specs.declared.fall.Failure.{Failure}
 use Rattle.audit_replay.specs.declared.fall.Fall.{Fall}

@@ -9,7 +9,7 @@ use Rattle.object_core.specs.Shelving.{ObjectFixed}
 use Rattle.agent_core.specs.Journals.{Entry}
 use Rattle.agent_core.proofs.Journaling.{slice_front}
 use Rattle.agent_core.proofs.AtPlaces.{slice_at}
-use Rattle.node_open.specs.Cells.{Cells}
+use Rattle.shard_core.specs.Cells.{Cells}
 use Rattle.journal_bytes.specs.Spelled.{ObjectJournal, numbered}
 use Rattle.audit_replay.specs.Legal.{AreRuled, IsRuled, IsRuledObject, all_named, named}
 use Rattle.audit_replay.proofs.Marks.{slice_last}

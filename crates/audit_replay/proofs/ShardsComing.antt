@@ -11,7 +11,7 @@ use Rattle.byte_fields.specs.Formats.{u32_in, u64_in}
 use Rattle.byte_fields.specs.Readers.{items_behind}
 use Rattle.agent_core.specs.Journals.{Entry, ShardSeen}
 use Rattle.agent_core.specs.State.{Plan}
-use Rattle.node_open.specs.Cells.{Cells}
+use Rattle.shard_core.specs.Cells.{Cells}
 use Rattle.journal_bytes.specs.JournalsReading.{shard_at, shards_at}
 use Rattle.journal_bytes.specs.Reading.{entry_at}
 use Rattle.journal_bytes.specs.Spelled.{SpelledEntry, spelled}

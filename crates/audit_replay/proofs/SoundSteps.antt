@@ -8,7 +8,7 @@ use Rattle.agent_core.specs.declared.told.Answer.{Answer}
 use Rattle.agent_core.specs.Journals.{Entry, IsLegalJournal, ShardSeen, entry}
 use Rattle.agent_core.specs.Plans.{IsPlan}
 use Rattle.agent_core.specs.State.{Plan}
-use Rattle.node_open.specs.Cells.{Cells}
+use Rattle.shard_core.specs.Cells.{Cells}
 use Rattle.journal_bytes.specs.Limits.{FitsEntry}
 use Rattle.journal_bytes.specs.Spelled.{ObjectJournal, SpelledEntry}
 use Rattle.audit_replay.specs.declared.due.Due.{Due}

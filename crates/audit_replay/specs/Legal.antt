@@ -14,7 +14,7 @@ use Rattle.object_core.specs.declared.ruling.Ruling.TheVariants as ruling
 use Rattle.agent_core.specs.declared.told.Told.{Told}
 use Rattle.agent_core.specs.State.{Plan, Ask, Asks}
 use Rattle.agent_core.specs.Journals.{Entry, entry, IsJudged, IsLegalJournal, Stands}
-use Rattle.node_open.specs.Cells.{Cells}
+use Rattle.shard_core.specs.Cells.{Cells}
 use Rattle.journal_bytes.specs.Spelled.{Journals, ObjectJournal}
 
 -- The ruling by these certificates at this moment: granted by the first entry with the right for

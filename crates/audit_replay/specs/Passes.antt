@@ -7,7 +7,7 @@ use Rattle.object_core.specs.Shelving.{fixed_of}
 use Rattle.agent_core.specs.Journals.{Entry, ShardSeen}
 use Rattle.agent_core.specs.Plans.{IsPlan}
 use Rattle.agent_core.specs.State.{Plan}
-use Rattle.node_open.specs.Cells.{Cells}
+use Rattle.shard_core.specs.Cells.{Cells}
 use Rattle.journal_bytes.specs.Spelled.{ObjectJournal, SpelledEntry, numbered}
 use Rattle.audit_replay.specs.declared.fall.Failure.{Failure}
 use Rattle.audit_replay.specs.declared.fall.Fall.{Fall}

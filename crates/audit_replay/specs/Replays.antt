@@ -5,7 +5,7 @@ use Rattle.object_core.specs.Objects.{ObjectEntry}
 use Rattle.object_core.specs.Shelving.{ObjectFixed}
 use Rattle.agent_core.specs.State.{Plan, Event}
 use Rattle.agent_core.specs.Journals.{Entry, IsLegalJournal, IsMeant, told_at}
-use Rattle.node_open.specs.Cells.{Cells}
+use Rattle.shard_core.specs.Cells.{Cells}
 use Rattle.journal_bytes.specs.Events.{event_from}
 use Rattle.journal_bytes.specs.JournalsReading.{journals_in}
 use Rattle.journal_bytes.specs.Limits.{Spells}

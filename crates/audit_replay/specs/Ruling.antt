@@ -3,7 +3,7 @@ use Rattle.std.specs.Prelude.{◌≡◌, ◌↔◌, ◌++◌, ◌∷◌, [], IsT
 use Rattle.object_core.specs.Objects.{ObjectEntry, ObjectPlan, ObjectSeen}
 use Rattle.object_core.specs.Shelving.{fixed_of}
 use Rattle.agent_core.specs.Journals.{Entry}
-use Rattle.node_open.specs.Cells.{Cells}
+use Rattle.shard_core.specs.Cells.{Cells}
 use Rattle.audit_replay.specs.declared.due.Due.{Due}
 use Rattle.audit_replay.specs.declared.replayed.ReplayCause.{ReplayCause}
 use Rattle.audit_replay.specs.declared.stepping.ShardReplay.{ShardReplay}

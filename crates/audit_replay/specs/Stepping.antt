@@ -11,7 +11,7 @@ use Rattle.agent_core.specs.Answers.{Given, Full, Handed, given_by}
 use Rattle.agent_core.specs.State.{Plan, Event}
 use Rattle.agent_core.specs.Journals.{Entry, ShardSeen, entry}
 use Rattle.agent_core.specs.Steps.{Hit, Miss, Other, StepAnswer, Steps}
-use Rattle.node_open.specs.Cells.{Cells}
+use Rattle.shard_core.specs.Cells.{Cells}
 use Rattle.journal_bytes.specs.Limits.{FitsEntry}
 use Rattle.journal_bytes.specs.Spelled.{ObjectJournal, SpelledEntry, numbered, spelled}
 use Rattle.audit_replay.specs.declared.due.Due.{Due}

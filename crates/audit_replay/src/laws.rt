@@ -1,7 +1,7 @@
 //! Laws of replays, each the contract of a function that does nothing.
 
 ghost use Rattle.std.specs.Prelude.{◌≡◌, ℕ, List};
-ghost use Rattle.node_open.specs.Cells.{Cells};
+ghost use Rattle.shard_core.specs.Cells.{Cells};
 ghost use Rattle.audit_replay.specs.declared.replayed.Replayed.{Replayed};
 ghost use Rattle.audit_replay.specs.Replays.{IsReplayed};
 

@@ -2,7 +2,7 @@
 
 ghost use Rattle.std.specs.Prelude.{◌≡◌, IfOk};
 ghost use Rattle.node_file.specs.Meaning.{opening, FitsByNumber};
-ghost use Rattle.node_open.specs.Cells.{cells_of};
+ghost use Rattle.shard_core.specs.Cells.{cells_of};
 ghost use Rattle.journal_bytes.specs.JournalsReading.{journals_in};
 ghost use Rattle.audit_replay.specs.Passes.{outcome_of};
 ghost use Rattle.audit_replay.specs.Replays.{AreReplayed, IsReplayed};
@@ -14,7 +14,7 @@ use crate::replayed::{Cell, ReplayCause, Replayed};
 use crate::shards::all_shards;
 use journal_bytes::{JournalFault, read_head};
 use node_file::Opening;
-use node_open::{objects_of, shards_of};
+use shard_core::{objects_of, shards_of};
 use std::alloc::{AllocError, Global};
 use taos_calculus::Decide;
 

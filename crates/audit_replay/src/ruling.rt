@@ -7,7 +7,7 @@ ghost use Rattle.object_core.specs.Objects.{list_after};
 ghost use Rattle.object_core.specs.Operation.{right_of as needed};
 ghost use Rattle.object_core.specs.ObjectView.{object_entry};
 ghost use Rattle.object_core.specs.Shelving.{fixed_of};
-ghost use Rattle.node_open.specs.Cells.{Cells};
+ghost use Rattle.shard_core.specs.Cells.{Cells};
 ghost use Rattle.journal_bytes.specs.Limits.{FitsRuled};
 ghost use Rattle.audit_replay.specs.Marks.{AreSound};
 ghost use Rattle.audit_replay.specs.Ruling.{FindsDue, HasMark, RulesNext, RulesOn, RulingCause};

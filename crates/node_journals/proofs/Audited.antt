@@ -30,7 +30,7 @@ use Rattle.journal_bytes.specs.Spelling.{journals_bytes}
 use Rattle.node_journals.specs.AuditOf.{SpellsAs, all_in, objects_text, shards_text}
 use Rattle.node_journals.specs.declared.audit.Form.{Form}
 use Rattle.node_journals.specs.declared.audit.Form.TheVariants as form
-use Rattle.node_open.specs.Cells.{AreCellsOf, fixed_with, its_plans, numbers_of as numbers_in}
+use Rattle.shard_core.specs.Cells.{AreCellsOf, fixed_with, its_plans, numbers_of as numbers_in}
 use Rattle.keyed_seal.specs.Keys.{Entries, key_of}
 use Rattle.taos_monitor.proofs.Keyed.{key_listed, listed_key}
 use Rattle.agent_core.specs.Opened.{plan_for}

@@ -11,7 +11,7 @@ use Rattle.journal_bytes.specs.Spelling.{journals_bytes}
 use Rattle.audit_replay.specs.declared.replayed.Replayed.{Replayed}
 use Rattle.audit_replay.specs.Replays.{IsReplayed}
 use Rattle.node_file.specs.Opening.{Opening}
-use Rattle.node_open.specs.Cells.{AreCellsOf, Cells}
+use Rattle.shard_core.specs.Cells.{AreCellsOf, Cells}
 use Rattle.object_core.specs.Objects.{object_of}
 use Rattle.request_course.specs.Cells.{Journals}
 use Rattle.node_journals.specs.declared.audit.Form.{Form}

@@ -7,7 +7,7 @@ use Rattle.audit_replay.specs.declared.replayed.Replayed.{Replayed}
 use Rattle.audit_replay.specs.Replays.{IsReplayed}
 use Rattle.frame_link.specs.Faults.{Rose}
 use Rattle.node_file.specs.Opening.{Opening}
-use Rattle.node_open.specs.Cells.{AreCellsOf, Cells}
+use Rattle.shard_core.specs.Cells.{AreCellsOf, Cells}
 use Rattle.node_journals.specs.declared.replay.ReplayEnd.{ReplayEnd}
 use Rattle.node_journals.specs.declared.replay.ReplayEnd.TheVariants as ends
 use Rattle.node_journals.specs.declared.replay.TheConstants.{MAX_JOURNALS}

@@ -5,14 +5,14 @@ ghost use Rattle.std.specs.declared.alloc.Global.{Global};
 ghost use Rattle.node_file.specs.Meaning.{opening, FitsByNumber};
 ghost use Rattle.node_file.specs.Opening.{Opening as Meaning};
 ghost use Rattle.node_file.specs.OpeningView.{Represents};
-ghost use Rattle.node_open.specs.Cells.{AreCellsOf, cells_of};
+ghost use Rattle.shard_core.specs.Cells.{AreCellsOf, cells_of};
 ghost use Rattle.node_journals.specs.Replaying.{IsToldOf, ReplayCauses, Replays, cause_word, is_legal, replay_line};
 
 use arrayvec::ArrayVec;
 use audit_replay::{Cell, ReplayCause, Replayed, replay};
 use frame_link::{Failed, Sink, Source, Unread, pour, read_up_to};
 use node_file::Opening;
-use node_open::cells_are_of;
+use shard_core::cells_are_of;
 use std::alloc::{AllocError, Global};
 use taos_lanes::{MAX_LINE, add_number, bench_of};
 

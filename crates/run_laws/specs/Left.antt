@@ -3,7 +3,7 @@ use Rattle.std.specs.Prelude.{List, length, map}
 use Rattle.std.specs.List.{range_with_len}
 use Rattle.object_core.specs.Shelving.{ObjectFixed}
 use Rattle.agent_core.specs.Journals.{Entry}
-use Rattle.node_open.specs.Cells.{Cells}
+use Rattle.shard_core.specs.Cells.{Cells}
 use Rattle.journal_bytes.specs.Spelled.{Journals as Spelled, ObjectJournal, numbered}
 use Rattle.audit_replay.specs.Replays.{all_spelled}
 use Rattle.request_course.specs.Cells.{Node, Journals}

@@ -21,3 +21,4 @@ pub mod Keepable
 pub mod Keeps
 pub mod NewAsks
 pub mod OneOwner
+pub mod Opens

@@ -4,3 +4,4 @@ pub mod Kept
 pub mod Letting
 pub mod Looking
 pub mod Alone
+pub mod Cells

@@ -29,8 +29,8 @@ use Rattle.taos_monitor.specs.Planned.{ArePlanned}
 use Rattle.taos_monitor.proofs.Keyed.{key_listed}
 use Rattle.taos_lanes.specs.declared.parts.NodeParts.{NodeParts}
 use Rattle.taos_lanes.specs.Parts.{ArePartsNew}
-use Rattle.node_open.specs.Cells.{its_plans, numbers_of, fixed_with, new_object}
-use Rattle.node_open.proofs.Opens.{fixed_new, numbers_ascend, same_plans}
+use Rattle.shard_core.specs.Cells.{its_plans, numbers_of, fixed_with, new_object}
+use Rattle.shard_core.proofs.Opens.{fixed_new, numbers_ascend, same_plans}
 use Rattle.taos_lanes.specs.Opened.{IsNodeOf, nothing_seen}
 
 -- ---- shards

@@ -9,8 +9,8 @@ use Rattle.std.proofs.lemmas.Option.{same_Some, slice_get-get_or}
 use Rattle.node_file.specs.Opening.{Opening}
 use Rattle.object_core.specs.Objects.{ObjectPlan, object_of}
 use Rattle.object_core.specs.Shelving.{HaveOwnNumbers, ObjectFixed, fixed_at, fixed_of}
-use Rattle.node_open.specs.Cells.{AllFit, fixed_with, its_plans, new_object, numbers_of as numbers_in}
-use Rattle.node_open.proofs.Opens.{fixed_new}
+use Rattle.shard_core.specs.Cells.{AllFit, fixed_with, its_plans, new_object, numbers_of as numbers_in}
+use Rattle.shard_core.proofs.Opens.{fixed_new}
 use Rattle.keyed_seal.specs.Keys.{Entries}
 use Rattle.agent_core.specs.Opened.{plan_for}
 use Rattle.agent_core.specs.State.{Plan}

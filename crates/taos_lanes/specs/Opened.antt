@@ -8,7 +8,7 @@ use Rattle.object_core.specs.Operation.{IsAccessList}
 use Rattle.object_core.specs.Shelving.{ObjectFixed, fixed_at, numbers_of as object_numbers}
 use Rattle.std.specs.Option.{option_map}
 use Rattle.node_file.specs.Opening.{Opening}
-use Rattle.node_open.specs.Cells.{fixed_with, its_plans, numbers_of}
+use Rattle.shard_core.specs.Cells.{fixed_with, its_plans, numbers_of}
 use Rattle.shard_core.specs.Alone.{plans_in, seen_in, own_in}
 use Rattle.agent_core.specs.State.{Plan}
 use Rattle.agent_core.specs.declared.limits.TheConstants.{MAX_COMMONS}

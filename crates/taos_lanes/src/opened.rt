@@ -11,13 +11,13 @@ ghost use Rattle.node_file.specs.Opening.{Opening as Meaning};
 ghost use Rattle.node_file.specs.OpeningView.{Represents};
 ghost use Rattle.taos_monitor.specs.Planned.{ArePlanned};
 ghost use Rattle.taos_lanes.specs.Parts.{ArePartsNew, node_in};
-ghost use Rattle.node_open.specs.Cells.{its_plans, new_object};
+ghost use Rattle.shard_core.specs.Cells.{its_plans, new_object};
 ghost use Rattle.taos_lanes.specs.Opened.{IsNodeOf, IsOpenedBy, IsSmall};
 
 use crate::NodeParts;
 use keyed_seal::Sealer;
 use node_file::Opening;
-use node_open::{objects_of, shards_of};
+use shard_core::{objects_of, shards_of};
 use object_core::LoneShelf;
 use shard_core::Lone;
 use std::alloc::{AllocError, Global};

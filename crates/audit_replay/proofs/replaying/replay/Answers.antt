@@ -1,5 +1,5 @@
 use Rattle.std.proofs.Common.{arith}
-use Rattle.node_open.specs.Cells.{cells_of}
+use Rattle.shard_core.specs.Cells.{cells_of}
 use Rattle.audit_replay.proofs.AllComing.{was_judged, was_malformed}
 use Rattle.audit_replay.proofs.replaying.replay.Goals as goal
 

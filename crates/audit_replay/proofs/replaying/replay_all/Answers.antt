@@ -7,7 +7,7 @@ use Rattle.object_core.specs.Shelving.{fixed_of}
 use Rattle.agent_core.specs.Journals.{ShardSeen}
 use Rattle.shard_core.specs.Opened.{new_shard}
 use Rattle.node_file.specs.Meaning.{opening}
-use Rattle.node_open.specs.Cells.{cells_of, its_plans}
+use Rattle.shard_core.specs.Cells.{cells_of, its_plans}
 use Rattle.journal_bytes.specs.JournalsReading.{head_at, journals_in, objects_at}
 use Rattle.audit_replay.specs.declared.replayed.Replayed.{Replayed}
 use Rattle.audit_replay.specs.declared.stepping.ShardReplay.{ShardReplay}

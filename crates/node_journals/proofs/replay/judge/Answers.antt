@@ -1,6 +1,6 @@
 -- the line is that of what the bytes come to, where they are not too many
 use Rattle.std.proofs.Common.{Bool, List, ℕ, arith, subst₂, sym}
-use Rattle.node_open.specs.Cells.{cells_of}
+use Rattle.shard_core.specs.Cells.{cells_of}
 use Rattle.node_journals.specs.Replaying.{IsToldOf, judged, too_large}
 use Rattle.node_journals.proofs.replay.judge.Goals as goal
 

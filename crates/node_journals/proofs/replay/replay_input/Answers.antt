@@ -2,7 +2,7 @@
 use Rattle.std.proofs.Common.{List, ℕ, refl, subst, sym, ◌∙◌}
 use Rattle.std.proofs.KnownBytes.{Keeps-refl}
 use Rattle.std.specs.Io.KnownBytes.{Appends}
-use Rattle.node_open.specs.Cells.{cells_of}
+use Rattle.shard_core.specs.Cells.{cells_of}
 use Rattle.node_journals.specs.Replaying.{IsToldOf}
 use Rattle.node_journals.proofs.Brought.{all_brought}
 use Rattle.node_journals.proofs.replay.replay_input.Goals as goal

@@ -10,7 +10,7 @@ use Rattle.node_file.specs.Meaning.{opening}
 use Rattle.taos_monitor.specs.Arriving.{node_of}
 use Rattle.taos_monitor.specs.Planned.{ArePlanned}
 use Rattle.agent_core.specs.State.{Plan}
-use Rattle.node_open.specs.Cells.{its_plans, new_object}
+use Rattle.shard_core.specs.Cells.{its_plans, new_object}
 use Rattle.taos_lanes.specs.Opened.{IsNodeOf}
 use Rattle.taos_lanes.specs.Opened.{HasFewCommons}
 use Rattle.taos_lanes.proofs.Small.{few_planned, lists_fit}

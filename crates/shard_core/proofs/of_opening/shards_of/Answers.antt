@@ -6,8 +6,8 @@ use Rattle.stmt_codec.specs.declared.cert.Cert.{Cert}
 use Rattle.stmt_codec.specs.View.{certificates}
 use Rattle.agent_core.specs.Opened.{MayOpen}
 use Rattle.node_file.specs.Meaning.{opening}
-use Rattle.node_open.proofs.Opens.{may_open}
-use Rattle.node_open.proofs.opening.shards_of.Goals as goal
+use Rattle.shard_core.proofs.Opens.{may_open}
+use Rattle.shard_core.proofs.of_opening.shards_of.Goals as goal
 
 pub open_shards-requires : goal.open_shards-requires
 open_shards-requires c =

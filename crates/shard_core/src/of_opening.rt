@@ -12,14 +12,15 @@ ghost use Rattle.node_file.specs.declared.opening.Opening as code;
 ghost use Rattle.node_file.specs.Meaning.{opening, FitsByNumber};
 ghost use Rattle.node_file.specs.Opening.{Opening as Meaning};
 ghost use Rattle.node_file.specs.OpeningView.{Represents};
-ghost use Rattle.node_open.specs.Cells.{AllFit, AreCellsOf, cells_of, its_plans, new_object, numbers_of};
+ghost use Rattle.shard_core.specs.Cells.{AllFit, AreCellsOf, cells_of, its_plans, new_object, numbers_of};
 ghost use Rattle.node_file.specs.Plans.{AreByNumber};
 
 use keyed_seal::KeyTable;
 use node_file::{ObjectPlans, Opening};
 use object_core::Object;
 use prin_term::Entry;
-use shard_core::{Shard, open_shards};
+use crate::shard::Shard;
+use crate::opened::open_shards;
 use std::alloc::{AllocError, Global};
 use std::sync::Arc;
 

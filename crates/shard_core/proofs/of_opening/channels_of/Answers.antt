@@ -1,8 +1,8 @@
 -- each place has a channel, whose number was added
 use Rattle.std.proofs.Common.{ℕ, List, [], ◌∷◌, ◌++◌, sym, ap, ◌∙◌, arith}
-use Rattle.node_open.proofs.Opens.{none_within, one_number_more}
-use Rattle.node_open.proofs.opening.channels_of.Goals as goal
-use Rattle.node_open.proofs.opening.channels_of.Goals.{in-Some+in_ok-push, in_default}
+use Rattle.shard_core.proofs.Opens.{none_within, one_number_more}
+use Rattle.shard_core.proofs.of_opening.channels_of.Goals as goal
+use Rattle.shard_core.proofs.of_opening.channels_of.Goals.{in-Some+in_ok-push, in_default}
 
 pub loop-place-preserved : goal.loop-place-preserved
 loop-place-preserved c =

@@ -7,10 +7,10 @@ use Rattle.object_core.specs.Objects.{ObjectSeen}
 use Rattle.object_core.specs.Operation.{IsAccessList, IsContent}
 use Rattle.object_core.specs.Shelving.{HaveOwnNumbers, fixed_of, numbers_of}
 use Rattle.node_file.specs.Plans.{plan}
-use Rattle.node_open.specs.Cells.{new_object}
-use Rattle.node_open.proofs.Opens.{are_apart, none_within, objects_ascend, one_object_more, plan_fits}
-use Rattle.node_open.proofs.opening.objects_of.Goals as goal
-use Rattle.node_open.proofs.opening.objects_of.Goals.{in-Some+in_ok-list+in_ok-new+in_ok-push, in_default}
+use Rattle.shard_core.specs.Cells.{new_object}
+use Rattle.shard_core.proofs.Opens.{are_apart, none_within, objects_ascend, one_object_more, plan_fits}
+use Rattle.shard_core.proofs.of_opening.objects_of.Goals as goal
+use Rattle.shard_core.proofs.of_opening.objects_of.Goals.{in-Some+in_ok-list+in_ok-new+in_ok-push, in_default}
 
 pub new-requires-clause-content : goal.new-requires-clause-content
 new-requires-clause-content c =

@@ -17,7 +17,7 @@ use Rattle.node_file.specs.Meaning.{opening, FitsByNumber}
 use Rattle.node_file.proofs.ByNumber.{nothing, object_of-at}
 use Rattle.node_file.proofs.Listed.{same_node}
 use Rattle.agent_core.specs.Opened.{MayOpen}
-use Rattle.node_open.specs.Cells.{AllFit, AreCellsOf, cells_of, fixed_with, its_plans, new_object, numbers_of}
+use Rattle.shard_core.specs.Cells.{AllFit, AreCellsOf, cells_of, fixed_with, its_plans, new_object, numbers_of}
 
 -- ---- objects
 
