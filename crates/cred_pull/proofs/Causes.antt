@@ -2,15 +2,15 @@
 use Rattle.std.proofs.Common.{◌≡◌, ℕ, List, [], length, Result, Err, refl, subst, inl, inr, Some, None, cond}
 use Rattle.std.specs.Prelude.{bytes_eq, codes, nat_lt, nat_le}
 use Rattle.byte_fields.proofs.Results.{chosen, err_is}
-use Rattle.file_lines.specs.declared.fault.FileCause.{FileCause}
-use Rattle.file_lines.specs.declared.fault.FileCause.TheVariants.{UnknownWord, Limit}
-use Rattle.file_lines.specs.declared.fault.FileFault.{FileFault}
-use Rattle.file_lines.specs.declared.fault.FileFault.TheVariants.{Line}
-use Rattle.file_lines.specs.Fields.{numbered_digits}
-use Rattle.file_lines.specs.FileLines.{file_makes, is_first_line}
-use Rattle.file_lines.specs.Lines.{lines_from, word_off}
-use Rattle.file_lines.proofs.Causes.{IsAgainst, against, chosen_causes, digits_causes, makes_fault, plain_causes, then, unless_causes}
-use Rattle.file_lines.proofs.Causes as lines
+use Rattle.prin_text.specs.declared.lines.fault.FileCause.{FileCause}
+use Rattle.prin_text.specs.declared.lines.fault.FileCause.TheVariants.{UnknownWord, Limit}
+use Rattle.prin_text.specs.declared.lines.fault.FileFault.{FileFault}
+use Rattle.prin_text.specs.declared.lines.fault.FileFault.TheVariants.{Line}
+use Rattle.prin_text.specs.Fields.{numbered_digits}
+use Rattle.prin_text.specs.FileLines.{file_makes, is_first_line}
+use Rattle.prin_text.specs.Lines.{lines_from, word_off}
+use Rattle.prin_text.proofs.Causes.{IsAgainst, against, chosen_causes, digits_causes, makes_fault, plain_causes, then, unless_causes}
+use Rattle.prin_text.proofs.Causes as lines
 use Rattle.cred_pull.specs.WalletFile.{WalletRow, row_added, row_cause, wallet_in, wallet_step}
 use Rattle.cred_pull.specs.WalletView.{file_cause, IsWalletFault, wallet_cause}
 

@@ -4,8 +4,8 @@ use Rattle.std.specs.Prelude.{◌==◌, filter, nat_le, nat_lt}
 use Rattle.std.proofs.lemmas.Bool.{le-leb, lt-leb, le-ltb, lt-ltb}
 use Rattle.std.proofs.lemmas.List.{map-append, take-append-le, take_all}
 use Rattle.std.proofs.lemmas.List.Elements.{All-filter, All-map, All-take, filter-append}
-use Rattle.file_lines.specs.declared.fault.FileCause.TheVariants.{Limit}
-use Rattle.file_lines.specs.FileLines.{unless}
+use Rattle.prin_text.specs.declared.lines.fault.FileCause.TheVariants.{Limit}
+use Rattle.prin_text.specs.FileLines.{unless}
 use Rattle.cred_pull.specs.Fetching.{Texts}
 use Rattle.cred_pull.specs.WalletFile.{AreShort, WalletRow, row_cause}
 use Rattle.cred_pull.specs.WalletServing.{certs_of, given_for}

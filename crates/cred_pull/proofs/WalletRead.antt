@@ -2,12 +2,12 @@
 use Rattle.std.proofs.Common.{◌≡◌, ◌⊎◌, ℕ, ◌<◌, ◌≤◌, List, [], length, Result, Err, refl, sym, subst}
 use Rattle.std.specs.Prelude.{codes}
 use Rattle.std.proofs.lemmas.Bool.{le-ltb, lt-ltb}
-use Rattle.file_lines.specs.declared.fault.FileCause.TheVariants.{Limit}
-use Rattle.file_lines.specs.declared.fault.FileFault.{FileFault}
-use Rattle.file_lines.specs.declared.fault.FileFault.TheVariants.{Line, NoMemory}
-use Rattle.file_lines.specs.declared.limits.TheConstants.{MAX_FILE}
-use Rattle.file_lines.specs.FileLines.{file_makes, is_first_line}
-use Rattle.file_lines.specs.Lines.{lines_from}
+use Rattle.prin_text.specs.declared.lines.fault.FileCause.TheVariants.{Limit}
+use Rattle.prin_text.specs.declared.lines.fault.FileFault.{FileFault}
+use Rattle.prin_text.specs.declared.lines.fault.FileFault.TheVariants.{Line, NoMemory}
+use Rattle.prin_text.specs.declared.lines.limits.TheConstants.{MAX_FILE}
+use Rattle.prin_text.specs.FileLines.{file_makes, is_first_line}
+use Rattle.prin_text.specs.Lines.{lines_from}
 use Rattle.cred_pull.specs.WalletFile.{WalletRow, wallet_in, wallet_step}
 
 -- what the lines make

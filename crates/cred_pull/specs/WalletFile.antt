@@ -2,14 +2,14 @@
 use Rattle.std.specs.Prelude.{ℕ, ◌≤◌, nat_le, nat_lt, bytes_eq, codes, if◌then◌else◌}
 use Rattle.std.specs.Prelude.{List, [], ◌∷◌, ◌++◌, length, All, Option, Result, Err}
 use Rattle.byte_fields.specs.Steps.{◌>>=◌}
-use Rattle.file_lines.specs.declared.fault.FileCause.{FileCause}
-use Rattle.file_lines.specs.declared.fault.FileCause.TheVariants.{UnknownWord, Limit}
-use Rattle.file_lines.specs.declared.fault.FileFault.{FileFault}
-use Rattle.file_lines.specs.declared.fault.FileFault.TheVariants.{Line}
-use Rattle.file_lines.specs.declared.limits.TheConstants.{MAX_FILE}
-use Rattle.file_lines.specs.Fields.{if_plain, numbered_digits}
-use Rattle.file_lines.specs.FileLines.{LineStep, file_makes, first_of, first_or, is_first_line, unless}
-use Rattle.file_lines.specs.Lines.{lines_from, word_off}
+use Rattle.prin_text.specs.declared.lines.fault.FileCause.{FileCause}
+use Rattle.prin_text.specs.declared.lines.fault.FileCause.TheVariants.{UnknownWord, Limit}
+use Rattle.prin_text.specs.declared.lines.fault.FileFault.{FileFault}
+use Rattle.prin_text.specs.declared.lines.fault.FileFault.TheVariants.{Line}
+use Rattle.prin_text.specs.declared.lines.limits.TheConstants.{MAX_FILE}
+use Rattle.prin_text.specs.Fields.{if_plain, numbered_digits}
+use Rattle.prin_text.specs.FileLines.{LineStep, file_makes, first_of, first_or, is_first_line, unless}
+use Rattle.prin_text.specs.Lines.{lines_from, word_off}
 use Rattle.cred_pull.specs.declared.limits.TheConstants.{MAX_WALLET_CERT, MAX_WALLET_LINES}
 
 -- a certificate of a channel, by its bytes

@@ -1,11 +1,11 @@
 -- What the program's wallet means, and what its lines so far do.
 use Rattle.std.specs.Prelude.{◌≡◌, Bool, List, [], map, Option}
-use Rattle.file_lines.specs.declared.fault.FileCause.{FileCause}
-use Rattle.file_lines.specs.declared.fault.FileCause.TheVariants as files
-use Rattle.file_lines.specs.declared.fault.FileFault.{FileFault}
-use Rattle.file_lines.specs.declared.fault.FileFault.TheVariants as faults
-use Rattle.file_lines.specs.FileLines.{IsFaultOf}
-use Rattle.file_lines.specs.LineView.{SoFar}
+use Rattle.prin_text.specs.declared.lines.fault.FileCause.{FileCause}
+use Rattle.prin_text.specs.declared.lines.fault.FileCause.TheVariants as files
+use Rattle.prin_text.specs.declared.lines.fault.FileFault.{FileFault}
+use Rattle.prin_text.specs.declared.lines.fault.FileFault.TheVariants as faults
+use Rattle.prin_text.specs.FileLines.{IsFaultOf}
+use Rattle.prin_text.specs.LineView.{SoFar}
 use Rattle.cred_pull.specs.declared.wallet.Wallet.{Wallet}
 use Rattle.cred_pull.specs.declared.wallet.WalletLine.{WalletLine}
 use Rattle.cred_pull.specs.declared.wallet_fault.WalletCause.{WalletCause}

@@ -3,7 +3,7 @@
 ghost use Rattle.std.specs.Prelude.{◌≡◌};
 ghost use Rattle.cred_pull.specs.WalletView.{file_cause};
 
-use file_lines::FileCause;
+use prin_text::FileCause;
 use std::error::Error;
 use std::fmt;
 

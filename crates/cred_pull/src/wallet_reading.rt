@@ -2,8 +2,8 @@
 
 ghost use Rattle.std.specs.Prelude.{◌≡◌, ◌∷◌, ◌++◌, List, Option, OnOk, Vec, map, true, [], IfOk};
 ghost use Rattle.byte_fields.specs.Steps.{with_fault};
-ghost use Rattle.file_lines.specs.FileLines.{unless};
-ghost use Rattle.file_lines.specs.LineView.{IsReadFor, TakesLine};
+ghost use Rattle.prin_text.specs.FileLines.{unless};
+ghost use Rattle.prin_text.specs.LineView.{IsReadFor, TakesLine};
 ghost use Rattle.cred_pull.specs.WalletFile.{AreShort, WalletRow, any_wallet_step, row_added};
 ghost use Rattle.cred_pull.specs.WalletFile.{row_cause, wallet_in, wallet_row, wallet_step};
 ghost use Rattle.cred_pull.specs.WalletView.{AreRows, IsWalletFault, StandSoFar, file_fault};
@@ -12,7 +12,7 @@ ghost use Rattle.cred_pull.specs.WalletView.{row_of, rows_of, wallet_cause};
 use crate::limits::{MAX_WALLET_CERT, MAX_WALLET_LINES};
 use crate::wallet::{Wallet, WalletLine};
 use crate::wallet_fault::{WalletCause, WalletFault};
-use file_lines::{
+use prin_text::{
     FileCause, FileFault, LineFault, MAX_FILE, is_first_line, is_plain, is_skipped, is_word,
     line_at, numbered_digits, word_off,
 };

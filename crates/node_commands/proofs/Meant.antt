@@ -6,10 +6,10 @@ use Rattle.node_file.specs.Opening.{Opening}
 use Rattle.node_commands.specs.declared.fault.FileFault.{FileFault}
 use Rattle.node_commands.specs.Files.{FileFails, IsNodeFile, IsRead, IsPathFile, IsRelayFile, IsWalletFile, Meaning, Opens, OpensNode, fault_of, node_means, path_means, relay_means, wallet_means}
 use Rattle.frame_link.specs.Streams.{Stream}
-use Rattle.file_lines.specs.declared.fault.FileCause.TheVariants.{Limit}
-use Rattle.file_lines.specs.declared.fault.FileFault.{FileFault as Refusal}
-use Rattle.file_lines.specs.declared.fault.FileFault.TheVariants as refusals
-use Rattle.file_lines.specs.declared.fault.FileFault.TheVariants.{Line, Byte}
+use Rattle.prin_text.specs.declared.lines.fault.FileCause.TheVariants.{Limit}
+use Rattle.prin_text.specs.declared.lines.fault.FileFault.{FileFault as Refusal}
+use Rattle.prin_text.specs.declared.lines.fault.FileFault.TheVariants as refusals
+use Rattle.prin_text.specs.declared.lines.fault.FileFault.TheVariants.{Line, Byte}
 use Rattle.node_file.specs.OpeningFile.{Means as NodeMeans, opening_in}
 use Rattle.node_file.specs.RelayFile.{relay_in}
 use Rattle.node_file.proofs.Whole.{meant_again}

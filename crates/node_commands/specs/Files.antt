@@ -3,9 +3,9 @@ use Rattle.std.specs.Prelude.{◌≡◌, ◌⊎◌, ℕ, ◌+◌, ◌-◌, ◌^�
 use Rattle.std.specs.Io.KnownBytes.{Consumes, IsAtEnd}
 use Rattle.frame_link.specs.Streams.{Stream}
 use Rattle.frame_link.specs.Faults.{Rose}
-use Rattle.file_lines.specs.declared.fault.FileFault.{FileFault as Refusal}
-use Rattle.file_lines.specs.declared.fault.FileFault.TheVariants.{Line, Byte}
-use Rattle.file_lines.specs.declared.fault.FileFault.TheVariants as refusals
+use Rattle.prin_text.specs.declared.lines.fault.FileFault.{FileFault as Refusal}
+use Rattle.prin_text.specs.declared.lines.fault.FileFault.TheVariants.{Line, Byte}
+use Rattle.prin_text.specs.declared.lines.fault.FileFault.TheVariants as refusals
 use Rattle.node_file.specs.declared.limits.TheConstants.{MAX_FILE}
 use Rattle.node_file.specs.Opening.{Opening}
 use Rattle.node_file.specs.OpeningFile.{Means, opening_in}

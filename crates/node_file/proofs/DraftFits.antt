@@ -12,19 +12,19 @@ use Rattle.byte_fields.proofs.Results.{bind_ok, chosen_ok, ok_is, with_fault_ok}
 use Rattle.prin_text.specs.Labels.{Rows}
 use Rattle.stmt_codec.specs.Certificates.{Certificate}
 use Rattle.stmt_codec.specs.Equality.{same_certificate}
-use Rattle.file_lines.specs.declared.fault.FileCause.{FileCause}
-use Rattle.file_lines.specs.declared.fault.FileCause.TheVariants.{Twice, Limit, NoNode, UnknownWord}
-use Rattle.file_lines.specs.declared.fault.FileFault.TheVariants.{Line}
+use Rattle.prin_text.specs.declared.lines.fault.FileCause.{FileCause}
+use Rattle.prin_text.specs.declared.lines.fault.FileCause.TheVariants.{Twice, Limit, NoNode, UnknownWord}
+use Rattle.prin_text.specs.declared.lines.fault.FileFault.TheVariants.{Line}
 use Rattle.node_file.specs.declared.limits.TheConstants.{MAX_SHARDS, MAX_LIMIT, MAX_CHANNELS, MAX_ANCHORS, MAX_COMMONS, MAX_ROOM}
 use Rattle.node_file.specs.declared.node_text.kind.LineKind.{LineKind}
 use Rattle.node_file.specs.declared.node_text.kind.LineKind.TheVariants as kinds
 use Rattle.node_file.specs.declared.node_text.kind.Setting.{Setting}
 use Rattle.node_file.specs.declared.node_text.kind.Setting.TheVariants as settings
 use Rattle.node_file.specs.declared.node_text.settings.Settings.{Settings}
-use Rattle.file_lines.specs.Fields.{digits, granted, if_plain, keyed, numbered, numbered_digits, one_number, some_or}
-use Rattle.file_lines.proofs.Plain.{plain_ok}
-use Rattle.file_lines.specs.FileLines.{first_of, key_cause, text_cause, unless}
-use Rattle.file_lines.specs.Lines.{lines_from, word_off}
+use Rattle.prin_text.specs.Fields.{digits, granted, if_plain, keyed, numbered, numbered_digits, one_number, some_or}
+use Rattle.prin_text.proofs.Plain.{plain_ok}
+use Rattle.prin_text.specs.FileLines.{first_of, key_cause, text_cause, unless}
+use Rattle.prin_text.specs.Lines.{lines_from, word_off}
 use Rattle.node_file.specs.NodeFile.{Draft, adds, anchors_in, channels_in, commons_in, draft_in, names_in, no_draft, node_step, objects_in, opening_said, opening_with, roles_in, roomy, settings_in, text_in}
 use Rattle.node_file.specs.NodeLines.{anchor_said, anchors_and, common_said, commons_and, commons_of, contents_and, grants_and, journal_with, keep_with, kind_of, new_within, node_with, objects_and, settings_with, shards_with}
 use Rattle.node_file.specs.Opening.{Opening, journal_room}

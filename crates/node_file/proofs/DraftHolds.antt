@@ -25,19 +25,19 @@ use Rattle.sealed_cert.proofs.Opened.{opened_takes}
 use Rattle.stmt_codec.specs.Certificates.{Certificate}
 use Rattle.stmt_codec.specs.Equality.{same_certificate}
 use Rattle.stmt_codec.proofs.Equal.{same_certificate-apart}
-use Rattle.file_lines.specs.declared.fault.FileCause.{FileCause}
-use Rattle.file_lines.specs.declared.fault.FileCause.TheVariants as causes
-use Rattle.file_lines.specs.declared.fault.FileCause.TheVariants.{Limit, Twice, UnknownName, UnknownObject, UnknownWord}
+use Rattle.prin_text.specs.declared.lines.fault.FileCause.{FileCause}
+use Rattle.prin_text.specs.declared.lines.fault.FileCause.TheVariants as causes
+use Rattle.prin_text.specs.declared.lines.fault.FileCause.TheVariants.{Limit, Twice, UnknownName, UnknownObject, UnknownWord}
 use Rattle.node_file.specs.declared.limits.TheConstants.{MAX_ANCHORS, MAX_COMMONS, MAX_KEEP, MAX_LIMIT, MAX_OBJECTS, MAX_SHARDS}
 use Rattle.node_file.specs.declared.node_text.kind.LineKind.{LineKind}
 use Rattle.node_file.specs.declared.node_text.kind.LineKind.TheVariants as kinds
 use Rattle.node_file.specs.declared.node_text.kind.Setting.{Setting}
 use Rattle.node_file.specs.declared.node_text.kind.Setting.TheVariants as settings
 use Rattle.node_file.specs.declared.node_text.settings.Settings.{Settings}
-use Rattle.file_lines.specs.Fields.{bytes_of_digits, digits, granted, if_plain, key_of_digits, keyed, number_up_to, numbered, numbered_digits, one_number, one_word, some_or}
-use Rattle.file_lines.proofs.Plain.{plain_ok}
-use Rattle.file_lines.specs.FileLines.{first_of, unless}
-use Rattle.file_lines.specs.Lines.{word_off}
+use Rattle.prin_text.specs.Fields.{bytes_of_digits, digits, granted, if_plain, key_of_digits, keyed, number_up_to, numbered, numbered_digits, one_number, one_word, some_or}
+use Rattle.prin_text.proofs.Plain.{plain_ok}
+use Rattle.prin_text.specs.FileLines.{first_of, unless}
+use Rattle.prin_text.specs.Lines.{word_off}
 use Rattle.node_file.specs.NodeFile.{Draft, adds, anchors_in, channels_in, commons_in, names_in, no_draft, node_step, objects_in, roles_in, settings_in}
 use Rattle.node_file.specs.NodeLines.{anchor_said, anchors_and, changed_at, changed_if, common_said, commons_and, commons_of, contents_and, grants_and, kind_of, name_said, new_within, objects_and, settings_with, who_said, with_content, with_grant}
 use Rattle.node_file.specs.NodeLines.{journal_with, keep_with, node_with, shards_with}

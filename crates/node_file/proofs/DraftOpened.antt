@@ -1,7 +1,7 @@
 -- The opening that a draft says.
 use Rattle.std.proofs.Common.{◌≡◌, ℕ, true, false, cond, List, None, Some, Ok, Err, refl, ap}
 use Rattle.std.specs.Prelude.{nat_le}
-use Rattle.file_lines.specs.declared.fault.FileCause.TheVariants.{Limit, NoNode}
+use Rattle.prin_text.specs.declared.lines.fault.FileCause.TheVariants.{Limit, NoNode}
 use Rattle.node_file.specs.declared.limits.TheConstants.{MAX_ROOM}
 use Rattle.node_file.specs.NodeFile.{Draft, opening_said, opening_with}
 use Rattle.node_file.specs.Opening.{journal_room}

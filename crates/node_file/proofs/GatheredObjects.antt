@@ -14,7 +14,7 @@ use Rattle.prin_term.specs.declared.term.Entry.{Entry}
 use Rattle.prin_term.specs.View.{Grant, grant}
 use Rattle.node_file.specs.NodeLines.{with_grant}
 use Rattle.node_file.specs.Plans.{AddsPlan, AreByNumber, ChangesPlan, drafted, number_at}
-use Rattle.file_lines.proofs.Gathered.{is_other, value_of-get}
+use Rattle.prin_text.proofs.Gathered.{is_other, value_of-get}
 
 abbrev pub Drafts : Type 0
 Drafts = List (ℕ × ObjectDraft)

@@ -3,12 +3,12 @@ use Rattle.std.proofs.Common.{◌≡◌, ℕ, ◌+◌, Bool, true, false, cond, 
 use Rattle.std.specs.Prelude.{codes}
 use Rattle.byte_fields.specs.Steps.{◌>>=◌, with_fault}
 use Rattle.byte_fields.proofs.Results.{bind_ok, chosen_ok, ok_is, with_fault_ok}
-use Rattle.file_lines.specs.declared.fault.FileCause.{FileCause}
-use Rattle.file_lines.specs.declared.fault.FileCause.TheVariants.{FirstLine}
-use Rattle.file_lines.specs.declared.fault.FileFault.{FileFault}
-use Rattle.file_lines.specs.declared.fault.FileFault.TheVariants.{Line}
-use Rattle.file_lines.specs.FileLines.{LineStep, begun, first_or, is_first_line, lines_make}
-use Rattle.file_lines.specs.Lines.{is_skipped, lines_from}
+use Rattle.prin_text.specs.declared.lines.fault.FileCause.{FileCause}
+use Rattle.prin_text.specs.declared.lines.fault.FileCause.TheVariants.{FirstLine}
+use Rattle.prin_text.specs.declared.lines.fault.FileFault.{FileFault}
+use Rattle.prin_text.specs.declared.lines.fault.FileFault.TheVariants.{Line}
+use Rattle.prin_text.specs.FileLines.{LineStep, begun, first_or, is_first_line, lines_make}
+use Rattle.prin_text.specs.Lines.{is_skipped, lines_from}
 use Rattle.node_file.specs.NodeFile.{Draft, draft_in, no_draft, node_step}
 
 -- the step of any line

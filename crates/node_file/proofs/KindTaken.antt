@@ -1,10 +1,10 @@
 -- A line that adds to one part alone, by its kind.
 use Rattle.std.proofs.Common.{◌≡◌, ℕ, List, Result, sym, subst}
 use Rattle.byte_fields.specs.Steps.{with_value}
-use Rattle.file_lines.specs.declared.fault.FileCause.{FileCause}
-use Rattle.file_lines.specs.declared.line_fault.LineFault.{LineFault}
-use Rattle.file_lines.specs.LineView.{TakesLine}
-use Rattle.file_lines.proofs.Taken.{lifted}
+use Rattle.prin_text.specs.declared.lines.fault.FileCause.{FileCause}
+use Rattle.prin_text.specs.declared.lines.line_fault.LineFault.{LineFault}
+use Rattle.prin_text.specs.LineView.{TakesLine}
+use Rattle.prin_text.proofs.Taken.{lifted}
 
 module _ {Held Meant Kind : Type 0} (Stands : Held → Meant → Type 0) (adds : Meant → Kind → List ℕ → Result Meant FileCause) where
   -- what was done for the part is done for the whole

@@ -7,7 +7,7 @@ use Rattle.std.proofs.lemmas.Option.{none-some, same_Some}
 use Rattle.prin_term.specs.declared.term.Anchor.{Anchor}
 use Rattle.stmt_codec.specs.Certificates.{Certificate}
 use Rattle.node_file.specs.declared.opening.Opening as code
-use Rattle.file_lines.specs.declared.fault.FileFault.{FileFault}
+use Rattle.prin_text.specs.declared.lines.fault.FileFault.{FileFault}
 use Rattle.node_file.specs.declared.limits.TheConstants.{MAX_SHARDS, MAX_LIMIT, MAX_CHANNELS, MAX_ANCHORS, MAX_COMMONS}
 use Rattle.node_file.specs.NodeFile.{Draft, opening_with}
 use Rattle.node_file.specs.Opening.{Opening, FitsOpening, FitsObject}

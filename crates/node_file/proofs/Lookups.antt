@@ -13,8 +13,8 @@ use Rattle.byte_fields.specs.Formats.{ended}
 use Rattle.object_core.specs.Objects.{ObjectPlan, object_of}
 use Rattle.node_file.specs.Opening.{key_of}
 use Rattle.node_file.specs.OpeningReading.{new_channel_at, new_object_at}
-use Rattle.file_lines.specs.Held.{HoldsKeys}
-use Rattle.file_lines.proofs.KeyLookups.{find_here, find_past, is_some-key_of, some_by}
+use Rattle.prin_text.specs.Held.{HoldsKeys}
+use Rattle.prin_text.proofs.KeyLookups.{find_here, find_past, is_some-key_of, some_by}
 use Rattle.node_file.specs.Plans.{AddsPlan, HoldsPlans}
 
 -- ---- the first that passes a test

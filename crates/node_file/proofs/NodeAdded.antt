@@ -6,13 +6,13 @@ use Rattle.object_core.specs.Objects.{ObjectPlan, object_of}
 use Rattle.prin_term.specs.Principal.{Principal}
 use Rattle.prin_term.specs.View.{Grant, principal}
 use Rattle.prin_text.specs.Labels.{Labels}
-use Rattle.file_lines.specs.declared.fault.FileCause.{FileCause}
-use Rattle.file_lines.specs.declared.fault.FileCause.TheVariants.{UnknownObject, Twice, Limit}
+use Rattle.prin_text.specs.declared.lines.fault.FileCause.{FileCause}
+use Rattle.prin_text.specs.declared.lines.fault.FileCause.TheVariants.{UnknownObject, Twice, Limit}
 use Rattle.node_file.specs.NodeLines.{changed_at, contents_and, empty_object, grants_and, objects_and, who_said, with_content, with_grant}
-use Rattle.file_lines.specs.declared.line_fault.LineFault.{LineFault}
-use Rattle.file_lines.specs.declared.line_fault.LineFault.TheVariants as lines
-use Rattle.file_lines.specs.Held.{HoldsRows}
-use Rattle.file_lines.specs.LineView.{GivesLine, TakesLine}
+use Rattle.prin_text.specs.declared.lines.line_fault.LineFault.{LineFault}
+use Rattle.prin_text.specs.declared.lines.line_fault.LineFault.TheVariants as lines
+use Rattle.prin_text.specs.Held.{HoldsRows}
+use Rattle.prin_text.specs.LineView.{GivesLine, TakesLine}
 use Rattle.node_file.specs.Plans.{HoldsPlans}
 use Rattle.node_file.proofs.SamePrincipals.{same_who}
 

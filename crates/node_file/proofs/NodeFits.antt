@@ -22,11 +22,11 @@ use Rattle.prin_text.specs.Reading.{principal_in}
 use Rattle.prin_text.specs.Words.{rights_of}
 use Rattle.prin_text.proofs.Entered.{rights_of-ok}
 use Rattle.prin_text.proofs.Whole.{read_is_meant}
-use Rattle.file_lines.specs.declared.fault.FileCause.{FileCause}
-use Rattle.file_lines.specs.declared.fault.FileCause.TheVariants as causes
-use Rattle.file_lines.specs.declared.fault.FileCause.TheVariants.{Twice, Limit, Rights, UnknownObject}
-use Rattle.file_lines.specs.Fields.{bytes_of_digits, digits_of, granted, number_up_to, numbered, numbered_digits, some_or, two_and_rest}
-use Rattle.file_lines.specs.FileLines.{first_of, unless}
+use Rattle.prin_text.specs.declared.lines.fault.FileCause.{FileCause}
+use Rattle.prin_text.specs.declared.lines.fault.FileCause.TheVariants as causes
+use Rattle.prin_text.specs.declared.lines.fault.FileCause.TheVariants.{Twice, Limit, Rights, UnknownObject}
+use Rattle.prin_text.specs.Fields.{bytes_of_digits, digits_of, granted, number_up_to, numbered, numbered_digits, some_or, two_and_rest}
+use Rattle.prin_text.specs.FileLines.{first_of, unless}
 use Rattle.node_file.specs.NodeLines.{changed_at, changed_if, contents_and, empty_object, grants_and, objects_and, who_cause, who_said, with_content, with_grant}
 use Rattle.node_file.specs.Opening.{FitsObject}
 use Rattle.node_file.proofs.Changed.{has_number, object_of-changed}

@@ -10,8 +10,8 @@ use Rattle.object_core.specs.Objects.{ObjectPlan}
 use Rattle.prin_text.specs.Labels.{Labels, Rows}
 use Rattle.stmt_codec.specs.declared.cert.Cert.{Cert}
 use Rattle.stmt_codec.specs.Certificates.{Certificate}
-use Rattle.file_lines.specs.declared.fault.FileCause.{FileCause}
-use Rattle.file_lines.specs.declared.line_fault.LineFault.{LineFault}
+use Rattle.prin_text.specs.declared.lines.fault.FileCause.{FileCause}
+use Rattle.prin_text.specs.declared.lines.line_fault.LineFault.{LineFault}
 use Rattle.node_file.specs.declared.limits.TheConstants.{MAX_CHANNELS}
 use Rattle.node_file.specs.declared.node_text.draft.Draft as code
 use Rattle.node_file.specs.declared.node_text.kind.LineKind.{LineKind}
@@ -19,10 +19,10 @@ use Rattle.node_file.specs.declared.node_text.kind.LineKind.TheVariants as kinds
 use Rattle.node_file.specs.declared.node_text.kind.Setting.{Setting}
 use Rattle.prin_text.specs.declared.limits.TheConstants.{MAX_NAMES, MAX_ROLES}
 use Rattle.node_file.specs.declared.node_text.settings.Settings.{Settings}
-use Rattle.file_lines.specs.Fields.{numbered}
-use Rattle.file_lines.specs.FileLines.{keys_with, texts_with}
-use Rattle.file_lines.specs.Held.{HoldsKeys, HoldsRows}
-use Rattle.file_lines.specs.LineView.{TakesLine}
+use Rattle.prin_text.specs.Fields.{numbered}
+use Rattle.prin_text.specs.FileLines.{keys_with, texts_with}
+use Rattle.prin_text.specs.Held.{HoldsKeys, HoldsRows}
+use Rattle.prin_text.specs.LineView.{TakesLine}
 use Rattle.node_file.specs.NodeLines.{anchor_said, anchors_and, anchors_with, commons_with, settings_with}
 use Rattle.node_file.specs.NodeFile.{Draft, adds, anchors_in, channels_in, commons_in, names_in, objects_in, roles_in, settings_in}
 use Rattle.node_file.specs.NodeView.{IsDraftOf}

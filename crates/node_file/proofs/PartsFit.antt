@@ -11,10 +11,10 @@ use Rattle.byte_fields.specs.Formats.{is_within}
 use Rattle.byte_fields.proofs.FormatFields.{within_is}
 use Rattle.byte_fields.proofs.Results.{bind_ok, chosen_ok, ok_is}
 use Rattle.byte_fields.specs.Steps.{◌>>=◌, IsByte, with_value}
-use Rattle.file_lines.specs.declared.fault.FileCause.{FileCause}
-use Rattle.file_lines.specs.declared.fault.FileCause.TheVariants.{Twice, Limit, Number}
-use Rattle.file_lines.specs.Fields.{bytes_of_digits, decoded, number_up_to, numbered, one_number, one_word, two_words}
-use Rattle.file_lines.specs.FileLines.{first_of, unless}
+use Rattle.prin_text.specs.declared.lines.fault.FileCause.{FileCause}
+use Rattle.prin_text.specs.declared.lines.fault.FileCause.TheVariants.{Twice, Limit, Number}
+use Rattle.prin_text.specs.Fields.{bytes_of_digits, decoded, number_up_to, numbered, one_number, one_word, two_words}
+use Rattle.prin_text.specs.FileLines.{first_of, unless}
 use Rattle.node_file.specs.NodeLines.{new_within}
 use Rattle.prin_text.specs.Words.{are_digits, has_leading_zero, value_after}
 

@@ -17,10 +17,10 @@ use Rattle.prin_text.specs.Labels.{begins_with_letter, is_digit, is_label, is_la
 use Rattle.prin_text.specs.Tokens.{is_blank}
 use Rattle.prin_text.specs.Words.{are_digits, has_leading_zero, value_after}
 use Rattle.prin_text.proofs.Decimals.{AreDigits, are_digits-from, has_leading_zero-decimal, own}
-use Rattle.file_lines.specs.declared.fault.FileCause.{FileCause}
-use Rattle.file_lines.specs.declared.fault.FileCause.TheVariants.{Words}
-use Rattle.file_lines.specs.Fields.{bytes_of_digits, decoded, digits, key_of_digits, keyed, number_up_to, numbered, numbered_digits, one_number, one_word, two_words}
-use Rattle.file_lines.specs.Lines.{is_plain, is_plain_byte, unblanked, word_off}
+use Rattle.prin_text.specs.declared.lines.fault.FileCause.{FileCause}
+use Rattle.prin_text.specs.declared.lines.fault.FileCause.TheVariants.{Words}
+use Rattle.prin_text.specs.Fields.{bytes_of_digits, decoded, digits, key_of_digits, keyed, number_up_to, numbered, numbered_digits, one_number, one_word, two_words}
+use Rattle.prin_text.specs.Lines.{is_plain, is_plain_byte, unblanked, word_off}
 use Rattle.node_file.specs.Opening.{IsKey}
 use Rattle.node_file.proofs.PrintedWords.{IsWord, plain_append, word_last, word_next}
 

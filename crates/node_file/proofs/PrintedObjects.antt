@@ -17,13 +17,13 @@ use Rattle.prin_text.specs.Labels.{AreLabels}
 use Rattle.prin_text.specs.Printing.{principal_text, rights_text}
 use Rattle.prin_text.specs.Words.{rights_of}
 use Rattle.prin_text.proofs.Listed.{rights_again}
-use Rattle.file_lines.specs.declared.fault.FileCause.{FileCause}
-use Rattle.file_lines.specs.declared.fault.FileCause.TheVariants.{Rights, Words}
+use Rattle.prin_text.specs.declared.lines.fault.FileCause.{FileCause}
+use Rattle.prin_text.specs.declared.lines.fault.FileCause.TheVariants.{Rights, Words}
 use Rattle.node_file.specs.declared.limits.TheConstants.{MAX_OBJECTS}
 use Rattle.node_file.specs.declared.node_text.kind.LineKind.TheVariants as kinds
-use Rattle.file_lines.specs.Fields.{granted, number_up_to, some_or, two_and_rest}
+use Rattle.prin_text.specs.Fields.{granted, number_up_to, some_or, two_and_rest}
 use Rattle.node_file.specs.FilePrinting.{allow_line, bytes_line, content_lines, number_line, object_lines}
-use Rattle.file_lines.specs.Lines.{is_plain, unblanked, word_off}
+use Rattle.prin_text.specs.Lines.{is_plain, unblanked, word_off}
 use Rattle.node_file.specs.NodeFile.{Draft, objects_in}
 use Rattle.node_file.specs.NodeLines.{changed_at, contents_and, grants_and, objects_and, with_content, with_grant}
 use Rattle.node_file.specs.Opening.{FitsObject}

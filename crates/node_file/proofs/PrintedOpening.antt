@@ -4,12 +4,12 @@ use Rattle.std.specs.Prelude.{codes}
 use Rattle.std.specs.List.{flat_map}
 use Rattle.std.proofs.lemmas.Bool.{le-leb, le-ltb}
 use Rattle.byte_fields.specs.Steps.{◌>>=◌, with_fault}
-use Rattle.file_lines.specs.declared.fault.FileCause.TheVariants.{Limit}
-use Rattle.file_lines.specs.declared.fault.FileFault.TheVariants.{Line}
+use Rattle.prin_text.specs.declared.lines.fault.FileCause.TheVariants.{Limit}
+use Rattle.prin_text.specs.declared.lines.fault.FileFault.TheVariants.{Line}
 use Rattle.node_file.specs.declared.limits.TheConstants.{MAX_FILE, MAX_ROOM}
-use Rattle.file_lines.specs.FileLines.{begun, file_makes, is_first_line, lines_make}
+use Rattle.prin_text.specs.FileLines.{begun, file_makes, is_first_line, lines_make}
 use Rattle.node_file.specs.FilePrinting.{anchor_line, bytes_line, common_line, object_lines, opening_lines, opening_text, settings_lines, text_line}
-use Rattle.file_lines.specs.Lines.{lines_from}
+use Rattle.prin_text.specs.Lines.{lines_from}
 use Rattle.node_file.specs.NodeFile.{Draft, anchors_in, channels_in, commons_in, draft_in, names_in, no_draft, node_step, objects_in, opening_said, roles_in, settings_in, text_in}
 use Rattle.node_file.specs.Opening.{FitsOpening, Opening, journal_room}
 use Rattle.node_file.specs.OpeningFile.{opening_in}

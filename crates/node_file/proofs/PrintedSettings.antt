@@ -6,16 +6,16 @@ use Rattle.std.specs.Option.{is_some}
 use Rattle.hex.specs.Hex.{encode_lower}
 use Rattle.byte_fields.specs.Steps.{◌>>=◌, with_value}
 use Rattle.byte_fields.proofs.FormatFields.{is_within-true}
-use Rattle.file_lines.specs.declared.fault.FileCause.TheVariants.{Twice}
+use Rattle.prin_text.specs.declared.lines.fault.FileCause.TheVariants.{Twice}
 use Rattle.node_file.specs.declared.limits.TheConstants.{MAX_SHARDS, MAX_KEEP, MAX_LIMIT}
 use Rattle.node_file.specs.declared.node_text.kind.LineKind.TheVariants as kinds
 use Rattle.node_file.specs.declared.node_text.kind.Setting.{Setting}
 use Rattle.node_file.specs.declared.node_text.kind.Setting.TheVariants as settings
 use Rattle.node_file.specs.declared.node_text.settings.Settings.{Settings}
-use Rattle.file_lines.specs.FileLines.{first_of, unless}
+use Rattle.prin_text.specs.FileLines.{first_of, unless}
 use Rattle.node_file.specs.FilePrinting.{bytes_line, number_line, settings_lines}
 use Rattle.node_file.specs.NodeFile.{no_draft, settings_in}
-use Rattle.file_lines.specs.Fields.{one_number}
+use Rattle.prin_text.specs.Fields.{one_number}
 use Rattle.node_file.specs.NodeLines.{journal_with, keep_with, new_within, node_with, settings_with, shards_with}
 use Rattle.node_file.specs.Opening.{FitsOpening, Opening}
 use Rattle.node_file.proofs.PrintedFields.{decimal_word, key_word, keyed_again, one_number_again, tail_plain}

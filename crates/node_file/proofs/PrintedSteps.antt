@@ -4,16 +4,16 @@ use Rattle.std.specs.Prelude.{codes}
 use Rattle.std.specs.List.{list_all}
 use Rattle.byte_fields.specs.Steps.{◌>>=◌}
 use Rattle.prin_text.specs.Tokens.{is_blank}
-use Rattle.file_lines.specs.declared.fault.FileCause.TheVariants.{UnknownWord}
+use Rattle.prin_text.specs.declared.lines.fault.FileCause.TheVariants.{UnknownWord}
 use Rattle.node_file.specs.declared.node_text.kind.LineKind.{LineKind}
 use Rattle.node_file.specs.declared.node_text.kind.LineKind.TheVariants as kinds
 use Rattle.node_file.specs.declared.node_text.kind.Setting.TheVariants as settings
-use Rattle.file_lines.specs.Fields.{if_plain, some_or}
-use Rattle.file_lines.specs.FileLines.{lines_make}
-use Rattle.file_lines.specs.Lines.{is_plain, is_skipped}
+use Rattle.prin_text.specs.Fields.{if_plain, some_or}
+use Rattle.prin_text.specs.FileLines.{lines_make}
+use Rattle.prin_text.specs.Lines.{is_plain, is_skipped}
 use Rattle.node_file.specs.NodeFile.{Draft, adds, node_step}
 use Rattle.node_file.specs.NodeLines.{kind_of}
-use Rattle.file_lines.proofs.Plain.{plain_says}
+use Rattle.prin_text.proofs.Plain.{plain_says}
 use Rattle.node_file.proofs.Kept.{any_step}
 use Rattle.node_file.proofs.PrintedWords.{ArePlain, IsWord, plain_append, word_first}
 

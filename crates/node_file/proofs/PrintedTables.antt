@@ -26,14 +26,14 @@ use Rattle.sealed_cert.proofs.SealedBytes.{relayed_bytes}
 use Rattle.stmt_codec.specs.Certificates.{Certificate}
 use Rattle.stmt_codec.specs.Equality.{same_certificate}
 use Rattle.stmt_codec.proofs.Equal.{same_certificate-false}
-use Rattle.file_lines.specs.declared.fault.FileCause.TheVariants as causes
-use Rattle.file_lines.specs.declared.fault.FileCause.TheVariants.{Limit, Text, Twice, UnknownName}
+use Rattle.prin_text.specs.declared.lines.fault.FileCause.TheVariants as causes
+use Rattle.prin_text.specs.declared.lines.fault.FileCause.TheVariants.{Limit, Text, Twice, UnknownName}
 use Rattle.node_file.specs.declared.limits.TheConstants.{MAX_ANCHORS, MAX_CHANNELS, MAX_COMMONS}
 use Rattle.node_file.specs.declared.node_text.kind.LineKind.TheVariants as kinds
-use Rattle.file_lines.specs.Fields.{number_up_to, numbered, some_or}
-use Rattle.file_lines.specs.FileLines.{key_cause, keys_with, text_cause, texts_with, unless}
+use Rattle.prin_text.specs.Fields.{number_up_to, numbered, some_or}
+use Rattle.prin_text.specs.FileLines.{key_cause, keys_with, text_cause, texts_with, unless}
 use Rattle.node_file.specs.FilePrinting.{anchor_line, bytes_line, common_line, text_line}
-use Rattle.file_lines.specs.Lines.{is_plain}
+use Rattle.prin_text.specs.Lines.{is_plain}
 use Rattle.node_file.specs.NodeFile.{Draft, anchors_in, channels_in, commons_in, names_in, roles_in}
 use Rattle.node_file.specs.NodeLines.{anchor_said, anchors_and, anchors_with, commons_and, commons_of, commons_with, name_said}
 use Rattle.node_file.specs.Opening.{IsAnchor, IsChannel, IsCommon}

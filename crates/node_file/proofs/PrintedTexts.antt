@@ -19,8 +19,8 @@ use Rattle.prin_text.specs.Words.{rights_of}
 use Rattle.prin_text.proofs.Listed.{rights_again}
 use Rattle.prin_text.proofs.Printed.{proper-printing}
 use Rattle.prin_text.proofs.Whole.{meant_is_read, printed_is_read, read_is_meant}
-use Rattle.file_lines.specs.declared.fault.FileCause.TheVariants as causes
-use Rattle.file_lines.specs.Lines.{is_plain, unblanked}
+use Rattle.prin_text.specs.declared.lines.fault.FileCause.TheVariants as causes
+use Rattle.prin_text.specs.Lines.{is_plain, unblanked}
 use Rattle.node_file.specs.NodeLines.{who_cause, who_said}
 use Rattle.node_file.proofs.PrintedFields.{decimal_word, passes_too, word_append}
 use Rattle.node_file.proofs.PrintedTables.{name_mark, named_word}

@@ -5,8 +5,8 @@ use Rattle.std.proofs.lemmas.Bool.{false≢true}
 use Rattle.std.proofs.lemmas.Bool.Decides.{nat_tests}
 use Rattle.prin_text.specs.Tokens.{is_blank}
 use Rattle.node_file.specs.FilePrinting.{text_of_lines}
-use Rattle.file_lines.specs.Lines.{behind_word, front_word, is_plain, is_plain_byte, lines_after, lines_from, unblanked, unreturned, word_off}
-use Rattle.file_lines.proofs.LineLaws.{line-byte}
+use Rattle.prin_text.specs.Lines.{behind_word, front_word, is_plain, is_plain_byte, lines_after, lines_from, unblanked, unreturned, word_off}
+use Rattle.prin_text.proofs.LineLaws.{line-byte}
 
 both : (a b : Bool) → (a && b) ≡ true → (a ≡ true) × (b ≡ true)
 both true b e = (refl, e)

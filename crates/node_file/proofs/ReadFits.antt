@@ -11,13 +11,13 @@ use Rattle.prin_term.specs.declared.term.Anchor.{Anchor}
 use Rattle.byte_fields.proofs.Results.{bind_ok, chosen_ok, ok_is, with_fault_ok}
 use Rattle.prin_text.specs.Labels.{AreLabels}
 use Rattle.stmt_codec.specs.Certificates.{Certificate}
-use Rattle.file_lines.specs.declared.fault.FileCause.{FileCause}
-use Rattle.file_lines.specs.declared.fault.FileCause.TheVariants.{Limit, NoNode}
-use Rattle.file_lines.specs.declared.fault.FileFault.TheVariants.{Line}
+use Rattle.prin_text.specs.declared.lines.fault.FileCause.{FileCause}
+use Rattle.prin_text.specs.declared.lines.fault.FileCause.TheVariants.{Limit, NoNode}
+use Rattle.prin_text.specs.declared.lines.fault.FileFault.TheVariants.{Line}
 use Rattle.node_file.specs.declared.limits.TheConstants.{MAX_ANCHORS, MAX_CHANNELS, MAX_COMMONS, MAX_KEEP, MAX_LIMIT, MAX_OBJECTS, MAX_ROOM, MAX_SHARDS}
 use Rattle.node_file.specs.declared.opening.Opening as code
-use Rattle.file_lines.specs.Fields.{some_or}
-use Rattle.file_lines.specs.Lines.{lines_from}
+use Rattle.prin_text.specs.Fields.{some_or}
+use Rattle.prin_text.specs.Lines.{lines_from}
 use Rattle.node_file.specs.Meaning.{opening}
 use Rattle.node_file.specs.NodeFile.{draft_in, opening_said, opening_with, roomy, text_in}
 use Rattle.node_file.specs.Opening.{FitsObject, FitsOpening, IsAnchor, IsCommon, IsKey, Opening, journal_room}

@@ -3,10 +3,10 @@ use Rattle.std.proofs.Common.{◌≡◌, ℕ, List, Result, refl, sym, subst, �
 use Rattle.keyed_seal.specs.Keys.{Entries, Keys}
 use Rattle.prin_text.specs.Labels.{Labels, Rows}
 use Rattle.node_file.specs.declared.limits.TheConstants.{MAX_ISSUERS, MAX_NODES}
-use Rattle.file_lines.specs.declared.line_fault.LineFault.{LineFault}
-use Rattle.file_lines.specs.FileLines.{keys_with, texts_with}
-use Rattle.file_lines.specs.Held.{HoldsKeys, HoldsRows}
-use Rattle.file_lines.specs.LineView.{TakesLine}
+use Rattle.prin_text.specs.declared.lines.line_fault.LineFault.{LineFault}
+use Rattle.prin_text.specs.FileLines.{keys_with, texts_with}
+use Rattle.prin_text.specs.Held.{HoldsKeys, HoldsRows}
+use Rattle.prin_text.specs.LineView.{TakesLine}
 use Rattle.prin_text.specs.declared.limits.TheConstants.{MAX_NAMES, MAX_ROLES}
 use Rattle.node_file.specs.declared.relay_kind.RelayKind.{RelayKind}
 use Rattle.node_file.specs.declared.relay_kind.RelayKind.TheVariants as kinds

@@ -5,7 +5,7 @@ use Rattle.std.proofs.lemmas.Bool.{false≢true}
 use Rattle.std.proofs.lemmas.Bool.Decides.{leb_tells}
 use Rattle.prin_term.specs.Principal.{Principal, depth, node_count}
 use Rattle.prin_text.proofs.Pieced.{depth-le-node_count}
-use Rattle.file_lines.specs.declared.fault.FileCause.TheVariants as causes
+use Rattle.prin_text.specs.declared.lines.fault.FileCause.TheVariants as causes
 use Rattle.byte_fields.specs.Steps.{◌>>=◌}
 use Rattle.prin_text.specs.Labels.{Labels, Rows, is_label}
 use Rattle.prin_text.specs.Pieces.{Piece}
@@ -14,7 +14,7 @@ use Rattle.prin_text.specs.Tokens.{Placed, tokens_from}
 use Rattle.prin_text.specs.Words.{known_as, operand_of, role_of, some_or_unknown}
 use Rattle.prin_text.specs.declared.fault.TextCause.TheVariants.{Syntax}
 use Rattle.prin_text.specs.declared.fault.TextFault.{TextFault}
-use Rattle.file_lines.specs.Held.{HoldsRows}
+use Rattle.prin_text.specs.Held.{HoldsRows}
 use Rattle.node_file.specs.NodeLines.{name_said, who_said}
 
 same_known : (table rows : Rows) → HoldsRows table rows → (word : List ℕ) → known_as table word ≡ known_as rows word

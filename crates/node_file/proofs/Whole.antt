@@ -8,8 +8,8 @@ use Rattle.stmt_codec.specs.Certificates.{Certificate}
 use Rattle.node_file.specs.declared.opening.Opening as code
 use Rattle.byte_fields.specs.declared.fault.FormatFault.{FormatFault}
 use Rattle.byte_fields.specs.declared.fault.FormatFault.TheVariants as formats
-use Rattle.file_lines.specs.declared.fault.FileFault.{FileFault}
-use Rattle.file_lines.specs.declared.fault.FileFault.TheVariants.{NoMemory}
+use Rattle.prin_text.specs.declared.lines.fault.FileFault.{FileFault}
+use Rattle.prin_text.specs.declared.lines.fault.FileFault.TheVariants.{NoMemory}
 use Rattle.node_file.specs.declared.limits.TheConstants.{MAX_FILE}
 use Rattle.node_file.specs.declared.opening.head.Head.{Head}
 use Rattle.object_core.specs.Objects.{ObjectPlan}
@@ -19,8 +19,8 @@ use Rattle.node_file.specs.OpeningReading.{head_at, channels_at, anchors_at, com
 use Rattle.node_file.specs.NodeFile.{text_in}
 use Rattle.node_file.specs.OpeningFile.{Means, is_binary, opening_in}
 use Rattle.node_file.specs.OpeningView.{IsReadAs, Represents}
-use Rattle.file_lines.specs.declared.fault.FileCause.TheVariants.{Limit}
-use Rattle.file_lines.specs.declared.fault.FileFault.TheVariants.{Line}
+use Rattle.prin_text.specs.declared.lines.fault.FileCause.TheVariants.{Limit}
+use Rattle.prin_text.specs.declared.lines.fault.FileFault.TheVariants.{Line}
 use Rattle.node_file.proofs.Faults.{opening_refused}
 use Rattle.byte_fields.specs.Steps.{with_fault}
 use Rattle.std.proofs.lemmas.Bool.{cases_lt, le-ltb, lt-ltb}

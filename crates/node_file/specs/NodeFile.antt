@@ -9,18 +9,18 @@ use Rattle.byte_fields.specs.Steps.{◌>>=◌, with_fault, with_value}
 use Rattle.prin_text.specs.Labels.{Labels, Rows}
 use Rattle.prin_text.specs.declared.limits.TheConstants.{MAX_NAMES, MAX_ROLES}
 use Rattle.stmt_codec.specs.Certificates.{Certificate}
-use Rattle.file_lines.specs.declared.fault.FileCause.{FileCause}
-use Rattle.file_lines.specs.declared.fault.FileCause.TheVariants.{UnknownWord, Limit, NoNode}
-use Rattle.file_lines.specs.declared.fault.FileFault.{FileFault}
-use Rattle.file_lines.specs.declared.fault.FileFault.TheVariants.{Line}
+use Rattle.prin_text.specs.declared.lines.fault.FileCause.{FileCause}
+use Rattle.prin_text.specs.declared.lines.fault.FileCause.TheVariants.{UnknownWord, Limit, NoNode}
+use Rattle.prin_text.specs.declared.lines.fault.FileFault.{FileFault}
+use Rattle.prin_text.specs.declared.lines.fault.FileFault.TheVariants.{Line}
 use Rattle.node_file.specs.declared.limits.TheConstants.{MAX_CHANNELS, MAX_ROOM}
 use Rattle.node_file.specs.declared.node_text.kind.LineKind.{LineKind}
 use Rattle.node_file.specs.declared.node_text.kind.LineKind.TheVariants as kinds
 use Rattle.node_file.specs.declared.node_text.settings.Settings.{Settings}
-use Rattle.file_lines.specs.Fields.{if_plain, some_or}
-use Rattle.file_lines.specs.FileLines.{LineStep, file_makes, first_or, is_first_line}
-use Rattle.file_lines.specs.FileLines.{keys_with, texts_with}
-use Rattle.file_lines.specs.Lines.{lines_from, word_off}
+use Rattle.prin_text.specs.Fields.{if_plain, some_or}
+use Rattle.prin_text.specs.FileLines.{LineStep, file_makes, first_or, is_first_line}
+use Rattle.prin_text.specs.FileLines.{keys_with, texts_with}
+use Rattle.prin_text.specs.Lines.{lines_from, word_off}
 use Rattle.node_file.specs.NodeLines.{anchors_with, commons_with, contents_with, grants_with}
 use Rattle.node_file.specs.NodeLines.{kind_of, objects_with, settings_with}
 use Rattle.node_file.specs.Opening.{Opening, journal_room, no_texts}

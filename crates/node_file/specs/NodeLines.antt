@@ -22,10 +22,10 @@ use Rattle.prin_text.specs.declared.fault.TextFault.TheVariants as faults
 use Rattle.sealed_cert.specs.Refusals.{opened}
 use Rattle.stmt_codec.specs.Certificates as certs
 use Rattle.stmt_codec.specs.Equality.{same_certificate}
-use Rattle.file_lines.specs.declared.fault.FileCause.{FileCause}
-use Rattle.file_lines.specs.declared.fault.FileCause.TheVariants as causes
-use Rattle.file_lines.specs.declared.fault.FileCause.TheVariants.{NodeFirst, UnknownObject}
-use Rattle.file_lines.specs.declared.fault.FileCause.TheVariants.{UnknownName, Twice, Limit}
+use Rattle.prin_text.specs.declared.lines.fault.FileCause.{FileCause}
+use Rattle.prin_text.specs.declared.lines.fault.FileCause.TheVariants as causes
+use Rattle.prin_text.specs.declared.lines.fault.FileCause.TheVariants.{NodeFirst, UnknownObject}
+use Rattle.prin_text.specs.declared.lines.fault.FileCause.TheVariants.{UnknownName, Twice, Limit}
 use Rattle.node_file.specs.declared.limits.TheConstants.{MAX_SHARDS, MAX_KEEP, MAX_LIMIT}
 use Rattle.node_file.specs.declared.limits.TheConstants.{MAX_ANCHORS, MAX_COMMONS, MAX_OBJECTS}
 use Rattle.node_file.specs.declared.node_text.kind.LineKind.{LineKind}
@@ -33,9 +33,9 @@ use Rattle.node_file.specs.declared.node_text.kind.LineKind.TheVariants as kinds
 use Rattle.node_file.specs.declared.node_text.kind.Setting.{Setting}
 use Rattle.node_file.specs.declared.node_text.kind.Setting.TheVariants as settings
 use Rattle.node_file.specs.declared.node_text.settings.Settings.{Settings}
-use Rattle.file_lines.specs.Fields.{digits, granted, keyed, numbered, numbered_digits}
-use Rattle.file_lines.specs.Fields.{number_up_to, one_number, some_or}
-use Rattle.file_lines.specs.FileLines.{first_of, unless}
+use Rattle.prin_text.specs.Fields.{digits, granted, keyed, numbered, numbered_digits}
+use Rattle.prin_text.specs.Fields.{number_up_to, one_number, some_or}
+use Rattle.prin_text.specs.FileLines.{first_of, unless}
 use Rattle.node_file.specs.OpeningReading.{same_anchor}
 
 -- what a line with this first word is about

@@ -2,12 +2,12 @@
 use Rattle.std.specs.Prelude.{◌≡◌, List, Result, map}
 use Rattle.object_core.specs.Objects.{ObjectPlan}
 use Rattle.prin_text.specs.Labels.{Labels}
-use Rattle.file_lines.specs.declared.fault.FileCause.{FileCause}
-use Rattle.file_lines.specs.declared.line_fault.LineFault.{LineFault}
+use Rattle.prin_text.specs.declared.lines.fault.FileCause.{FileCause}
+use Rattle.prin_text.specs.declared.lines.line_fault.LineFault.{LineFault}
 use Rattle.node_file.specs.declared.limits.TheConstants.{MAX_CHANNELS}
 use Rattle.node_file.specs.declared.node_text.draft.Draft as code
-use Rattle.file_lines.specs.Held.{HoldsKeys, HoldsRows}
-use Rattle.file_lines.specs.LineView.{TakesLine}
+use Rattle.prin_text.specs.Held.{HoldsKeys, HoldsRows}
+use Rattle.prin_text.specs.LineView.{TakesLine}
 use Rattle.node_file.specs.NodeFile.{Draft}
 use Rattle.node_file.specs.OpeningView.{common}
 use Rattle.node_file.specs.Plans.{HoldsPlans}

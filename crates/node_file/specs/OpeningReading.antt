@@ -15,9 +15,9 @@ use Rattle.stmt_codec.specs.Equality.{same_certificate}
 use Rattle.node_file.specs.declared.limits.TheConstants.{MAX_KEEP, MAX_LIMIT, MAX_CHANNELS}
 use Rattle.node_file.specs.declared.limits.TheConstants.{MAX_ANCHORS, MAX_COMMONS, MAX_OBJECTS}
 use Rattle.node_file.specs.declared.limits.TheConstants.{MAX_SHARDS, MAX_ROOM}
-use Rattle.file_lines.specs.declared.fault.FileFault.{FileFault}
-use Rattle.file_lines.specs.declared.fault.FileFault.TheVariants.{Line, Byte}
-use Rattle.file_lines.specs.declared.fault.FileFault.TheVariants as files
+use Rattle.prin_text.specs.declared.lines.fault.FileFault.{FileFault}
+use Rattle.prin_text.specs.declared.lines.fault.FileFault.TheVariants.{Line, Byte}
+use Rattle.prin_text.specs.declared.lines.fault.FileFault.TheVariants as files
 use Rattle.node_file.specs.declared.opening.head.Head.{Head}
 use Rattle.object_core.specs.Objects.{ObjectPlan}
 use Rattle.node_file.specs.Opening.{Opening, journal_room, no_texts}

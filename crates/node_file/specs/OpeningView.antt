@@ -6,11 +6,11 @@ use Rattle.byte_fields.specs.declared.fault.FormatFault.{FormatFault}
 use Rattle.byte_fields.specs.declared.fault.FormatFault.TheVariants.{NoMemory}
 use Rattle.stmt_codec.specs.declared.cert.Cert.{Cert}
 use Rattle.stmt_codec.specs.Certificates.{Certificate, certificate}
-use Rattle.file_lines.specs.declared.fault.FileFault.{FileFault}
+use Rattle.prin_text.specs.declared.lines.fault.FileFault.{FileFault}
 use Rattle.node_file.specs.declared.opening.Opening as code
 use Rattle.node_file.specs.Opening.{Opening}
-use Rattle.file_lines.specs.Held.{HoldsKeys, HoldsRows}
-use Rattle.file_lines.specs.LineView.{IsReadFor}
+use Rattle.prin_text.specs.Held.{HoldsKeys, HoldsRows}
+use Rattle.prin_text.specs.LineView.{IsReadFor}
 use Rattle.node_file.specs.Plans.{HoldsPlans}
 
 -- the certificate that the program shares, wherever it lies

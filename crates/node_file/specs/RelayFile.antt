@@ -5,17 +5,17 @@ use Rattle.keyed_seal.specs.Keys.{Entries}
 use Rattle.byte_fields.specs.Steps.{◌>>=◌, with_value}
 use Rattle.prin_text.specs.Labels.{Rows}
 use Rattle.prin_text.specs.declared.limits.TheConstants.{MAX_NAMES, MAX_ROLES}
-use Rattle.file_lines.specs.declared.fault.FileCause.{FileCause}
-use Rattle.file_lines.specs.declared.fault.FileCause.TheVariants.{UnknownWord, Limit}
-use Rattle.file_lines.specs.declared.fault.FileFault.{FileFault}
-use Rattle.file_lines.specs.declared.fault.FileFault.TheVariants.{Line}
+use Rattle.prin_text.specs.declared.lines.fault.FileCause.{FileCause}
+use Rattle.prin_text.specs.declared.lines.fault.FileCause.TheVariants.{UnknownWord, Limit}
+use Rattle.prin_text.specs.declared.lines.fault.FileFault.{FileFault}
+use Rattle.prin_text.specs.declared.lines.fault.FileFault.TheVariants.{Line}
 use Rattle.node_file.specs.declared.limits.TheConstants.{MAX_FILE, MAX_ISSUERS, MAX_NODES}
 use Rattle.node_file.specs.declared.relay_kind.RelayKind.{RelayKind}
 use Rattle.node_file.specs.declared.relay_kind.RelayKind.TheVariants as kinds
-use Rattle.file_lines.specs.Fields.{if_plain, some_or}
-use Rattle.file_lines.specs.FileLines.{LineStep, file_makes, first_or, is_first_line}
-use Rattle.file_lines.specs.FileLines.{keys_with, texts_with}
-use Rattle.file_lines.specs.Lines.{lines_from, word_off}
+use Rattle.prin_text.specs.Fields.{if_plain, some_or}
+use Rattle.prin_text.specs.FileLines.{LineStep, file_makes, first_or, is_first_line}
+use Rattle.prin_text.specs.FileLines.{keys_with, texts_with}
+use Rattle.prin_text.specs.Lines.{lines_from, word_off}
 
 -- what a relay knows: the keys of issuers and of nodes, and the texts of names and of roles
 pub record RelayFile : Type 0 where

@@ -4,8 +4,8 @@ use Rattle.keyed_seal.specs.Keys.{Keys}
 use Rattle.prin_text.specs.Labels.{Labels}
 use Rattle.node_file.specs.declared.relay_file.RelayFile as code
 use Rattle.node_file.specs.declared.relay_reading.RelayDraft.{RelayDraft}
-use Rattle.file_lines.specs.Held.{HoldsKeys, HoldsRows}
-use Rattle.file_lines.specs.LineView.{SoFar}
+use Rattle.prin_text.specs.Held.{HoldsKeys, HoldsRows}
+use Rattle.prin_text.specs.LineView.{SoFar}
 use Rattle.node_file.specs.RelayFile.{RelayFile, no_relay}
 use Rattle.node_file.specs.declared.limits.TheConstants.{MAX_ISSUERS, MAX_NODES}
 

@@ -13,7 +13,7 @@ mod relay_file;
 mod relay_kind;
 mod relay_reading;
 
-pub use file_lines::{FileCause, FileFault};
+pub use prin_text::{FileCause, FileFault};
 pub use laws::{one_opening, openings_are_read, printed_openings_are_read};
 pub use limit_laws::limits_are;
 pub use limits::{

@@ -1,7 +1,7 @@
 //! The limits of openings and of files.
 
 /// The most bytes of a file.
-pub const MAX_FILE: usize = file_lines::MAX_FILE;
+pub const MAX_FILE: usize = prin_text::MAX_FILE;
 /// The most shards.
 pub const MAX_SHARDS: u32 = 64;
 /// The longest time in seconds that a dead certificate stays.

@@ -3,7 +3,7 @@
 ghost use Rattle.std.specs.Prelude.{◌≡◌};
 ghost use Rattle.node_file.specs.RelayFile.{relay_kind};
 
-use file_lines::is_word;
+use prin_text::is_word;
 
 // What a line is about.
 #[derive(Clone, Copy)]

@@ -4,13 +4,13 @@ ghost use Rattle.std.specs.Prelude.{◌≡◌, IfOk, Ok, Option, true};
 ghost use Rattle.node_file.specs.RelayFile as meant;
 ghost use Rattle.node_file.specs.RelayFile.{any_relay_step, no_relay, relay_adds, relay_in};
 ghost use Rattle.node_file.specs.RelayFile.{relay_step};
-ghost use Rattle.file_lines.specs.LineView.{IsReadFor, TakesLine};
+ghost use Rattle.prin_text.specs.LineView.{IsReadFor, TakesLine};
 ghost use Rattle.node_file.specs.RelayView.{IsRelayDraft, StandsFor, StandsSoFar};
 
 use crate::limits::{MAX_FILE, MAX_ISSUERS, MAX_NODES};
 use crate::relay_file::RelayFile;
 use crate::relay_kind::{RelayKind, relay_kind};
-use file_lines::{
+use prin_text::{
     FileCause, FileFault, KeyDraft, LineFault, is_first_line, is_plain, is_skipped, line_at,
     take_key, take_name, take_role, word_off,
 };

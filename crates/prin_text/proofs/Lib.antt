@@ -19,3 +19,14 @@ pub mod Refused
 pub mod Outcomes
 pub mod Listed
 pub mod Entered
+pub mod LineLaws
+pub mod WordLaws
+pub mod Plain
+pub mod KeyLookups
+pub mod Added
+pub mod Gathered
+pub mod Rows
+pub mod Taken
+pub mod Begun
+pub mod FileRead
+pub mod Causes

@@ -10,3 +10,8 @@ pub mod View
 pub mod Meaning
 pub mod Refusing
 pub mod ListMeaning
+pub mod Lines
+pub mod Fields
+pub mod FileLines
+pub mod LineView
+pub mod Held

@@ -2,15 +2,15 @@
 use Rattle.std.proofs.Common.{◌≡◌, ℕ, List, [], length, Result, Err, refl, subst, inl, inr, Some, None, cond}
 use Rattle.std.specs.Prelude.{codes, nat_lt, nat_le, is_some}
 use Rattle.byte_fields.proofs.Results.{chosen, err_is}
-use Rattle.file_lines.specs.declared.fault.FileCause.{FileCause}
-use Rattle.file_lines.specs.declared.fault.FileCause.TheVariants.{UnknownWord, UnknownDomain, Twice, Limit}
-use Rattle.file_lines.specs.declared.fault.FileFault.{FileFault}
-use Rattle.file_lines.specs.declared.fault.FileFault.TheVariants.{Line}
-use Rattle.file_lines.specs.Fields.{one_number, some_or, two_numbers_and_key}
-use Rattle.file_lines.specs.FileLines.{file_makes, is_first_line}
-use Rattle.file_lines.specs.Lines.{lines_from, word_off}
-use Rattle.file_lines.proofs.Causes.{IsAgainst, against, chosen_causes, key_against, makes_fault, one_causes, or_cause, plain_causes, then, two_causes, unless_causes}
-use Rattle.file_lines.proofs.Causes as lines
+use Rattle.prin_text.specs.declared.lines.fault.FileCause.{FileCause}
+use Rattle.prin_text.specs.declared.lines.fault.FileCause.TheVariants.{UnknownWord, UnknownDomain, Twice, Limit}
+use Rattle.prin_text.specs.declared.lines.fault.FileFault.{FileFault}
+use Rattle.prin_text.specs.declared.lines.fault.FileFault.TheVariants.{Line}
+use Rattle.prin_text.specs.Fields.{one_number, some_or, two_numbers_and_key}
+use Rattle.prin_text.specs.FileLines.{file_makes, is_first_line}
+use Rattle.prin_text.specs.Lines.{lines_from, word_off}
+use Rattle.prin_text.proofs.Causes.{IsAgainst, against, chosen_causes, key_against, makes_fault, one_causes, or_cause, plain_causes, then, two_causes, unless_causes}
+use Rattle.prin_text.proofs.Causes as lines
 use Rattle.relay_path.specs.declared.path_kind.PathKind.{PathKind}
 use Rattle.relay_path.specs.declared.path_kind.PathKind.TheVariants as kinds
 use Rattle.relay_path.specs.Domains.{DomainKnows, domain_of}

@@ -7,13 +7,13 @@ use Rattle.std.proofs.lemmas.Bool.{eqb-true, eq-eqb, cases_Bool, false≢true}
 use Rattle.byte_fields.specs.Steps.{◌>>=◌, with_fault}
 use Rattle.byte_fields.proofs.Results.{bind_ok, chosen, chosen_ok, ok_is, with_fault_ok}
 use Rattle.keyed_seal.specs.Keys.{Entries, key_of}
-use Rattle.file_lines.specs.declared.fault.FileCause.{FileCause}
-use Rattle.file_lines.specs.declared.fault.FileCause.TheVariants.{FirstLine, UnknownDomain, Limit}
-use Rattle.file_lines.specs.declared.fault.FileFault.{FileFault}
-use Rattle.file_lines.specs.declared.fault.FileFault.TheVariants.{Line}
-use Rattle.file_lines.specs.Fields.{if_plain, one_number, some_or, two_numbers_and_key}
-use Rattle.file_lines.specs.FileLines.{begun, first_or, is_first_line, key_cause, LineStep, lines_make, unless}
-use Rattle.file_lines.specs.Lines.{is_plain, is_skipped, lines_from, word_off}
+use Rattle.prin_text.specs.declared.lines.fault.FileCause.{FileCause}
+use Rattle.prin_text.specs.declared.lines.fault.FileCause.TheVariants.{FirstLine, UnknownDomain, Limit}
+use Rattle.prin_text.specs.declared.lines.fault.FileFault.{FileFault}
+use Rattle.prin_text.specs.declared.lines.fault.FileFault.TheVariants.{Line}
+use Rattle.prin_text.specs.Fields.{if_plain, one_number, some_or, two_numbers_and_key}
+use Rattle.prin_text.specs.FileLines.{begun, first_or, is_first_line, key_cause, LineStep, lines_make, unless}
+use Rattle.prin_text.specs.Lines.{is_plain, is_skipped, lines_from, word_off}
 use Rattle.relay_path.specs.declared.domain.Domain.{Domain}
 use Rattle.relay_path.specs.declared.path_kind.PathKind.{PathKind}
 use Rattle.relay_path.specs.declared.path_kind.PathKind.TheVariants as kinds

@@ -6,13 +6,13 @@ use Rattle.std.proofs.lemmas.Bool.{le-leb, lt-leb}
 use Rattle.std.proofs.lemmas.Slice.Zip.{AllZip-long}
 use Rattle.byte_fields.specs.Steps.{◌>>=◌, with_value}
 use Rattle.keyed_seal.specs.Keys.{Entries, Keys}
-use Rattle.file_lines.specs.declared.fault.FileCause.{FileCause}
-use Rattle.file_lines.specs.declared.fault.FileCause.TheVariants.{Limit}
-use Rattle.file_lines.specs.declared.line_fault.LineFault.{LineFault}
-use Rattle.file_lines.specs.FileLines.{key_cause, unless}
-use Rattle.file_lines.specs.Held.{HoldsKeys}
-use Rattle.file_lines.specs.LineView.{TakesLine}
-use Rattle.file_lines.proofs.Taken.{lifted, unless-mapped}
+use Rattle.prin_text.specs.declared.lines.fault.FileCause.{FileCause}
+use Rattle.prin_text.specs.declared.lines.fault.FileCause.TheVariants.{Limit}
+use Rattle.prin_text.specs.declared.lines.line_fault.LineFault.{LineFault}
+use Rattle.prin_text.specs.FileLines.{key_cause, unless}
+use Rattle.prin_text.specs.Held.{HoldsKeys}
+use Rattle.prin_text.specs.LineView.{TakesLine}
+use Rattle.prin_text.proofs.Taken.{lifted, unless-mapped}
 use Rattle.relay_path.specs.declared.domain_draft.DomainDraft.{DomainDraft}
 use Rattle.relay_path.specs.declared.limits.TheConstants.{MAX_ISSUERS, MAX_LINKS, MAX_NODES}
 use Rattle.relay_path.specs.Domains.{DomainKnows, domain_of}

@@ -2,14 +2,14 @@
 use Rattle.std.specs.Prelude.{ℕ, Bool, ◌&&◌, ◌==◌, not, nat_le, nat_lt, bytes_eq, codes, is_some}
 use Rattle.std.specs.Prelude.{if◌then◌else◌, List, [], ◌∷◌, ◌++◌, length, Option, Some, None, Result, Ok, Err}
 use Rattle.byte_fields.specs.Steps.{◌>>=◌}
-use Rattle.file_lines.specs.declared.fault.FileCause.{FileCause}
-use Rattle.file_lines.specs.declared.fault.FileCause.TheVariants.{UnknownWord, UnknownDomain, Twice, Limit}
-use Rattle.file_lines.specs.declared.fault.FileFault.{FileFault}
-use Rattle.file_lines.specs.declared.fault.FileFault.TheVariants.{Line}
-use Rattle.file_lines.specs.declared.limits.TheConstants.{MAX_FILE}
-use Rattle.file_lines.specs.Fields.{if_plain, one_number, some_or, two_numbers_and_key}
-use Rattle.file_lines.specs.FileLines.{LineStep, file_makes, first_of, first_or, is_first_line, key_cause, unless}
-use Rattle.file_lines.specs.Lines.{lines_from, word_off}
+use Rattle.prin_text.specs.declared.lines.fault.FileCause.{FileCause}
+use Rattle.prin_text.specs.declared.lines.fault.FileCause.TheVariants.{UnknownWord, UnknownDomain, Twice, Limit}
+use Rattle.prin_text.specs.declared.lines.fault.FileFault.{FileFault}
+use Rattle.prin_text.specs.declared.lines.fault.FileFault.TheVariants.{Line}
+use Rattle.prin_text.specs.declared.lines.limits.TheConstants.{MAX_FILE}
+use Rattle.prin_text.specs.Fields.{if_plain, one_number, some_or, two_numbers_and_key}
+use Rattle.prin_text.specs.FileLines.{LineStep, file_makes, first_of, first_or, is_first_line, key_cause, unless}
+use Rattle.prin_text.specs.Lines.{lines_from, word_off}
 use Rattle.relay_path.specs.declared.limits.TheConstants.{MAX_DOMAINS, MAX_ISSUERS, MAX_NODES, MAX_LINKS}
 use Rattle.relay_path.specs.declared.path_kind.PathKind.{PathKind}
 use Rattle.relay_path.specs.declared.path_kind.PathKind.TheVariants as kinds

@@ -2,13 +2,13 @@
 use Rattle.std.specs.Prelude.{◌≡◌, ℕ, Bool, List, [], Option}
 use Rattle.std.specs.List.{AllZip}
 use Rattle.keyed_seal.specs.Keys.{Keys}
-use Rattle.file_lines.specs.declared.fault.FileCause.{FileCause}
-use Rattle.file_lines.specs.declared.fault.FileCause.TheVariants as files
-use Rattle.file_lines.specs.declared.fault.FileFault.{FileFault}
-use Rattle.file_lines.specs.declared.fault.FileFault.TheVariants as faults
-use Rattle.file_lines.specs.FileLines.{IsFaultOf}
-use Rattle.file_lines.specs.Held.{HoldsKeys}
-use Rattle.file_lines.specs.LineView.{SoFar}
+use Rattle.prin_text.specs.declared.lines.fault.FileCause.{FileCause}
+use Rattle.prin_text.specs.declared.lines.fault.FileCause.TheVariants as files
+use Rattle.prin_text.specs.declared.lines.fault.FileFault.{FileFault}
+use Rattle.prin_text.specs.declared.lines.fault.FileFault.TheVariants as faults
+use Rattle.prin_text.specs.FileLines.{IsFaultOf}
+use Rattle.prin_text.specs.Held.{HoldsKeys}
+use Rattle.prin_text.specs.LineView.{SoFar}
 use Rattle.relay_path.specs.declared.domain.Domain.{Domain}
 use Rattle.relay_path.specs.declared.fault.PathCause.{PathCause}
 use Rattle.relay_path.specs.declared.fault.PathCause.TheVariants as causes

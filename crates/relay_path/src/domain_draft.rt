@@ -8,7 +8,7 @@ ghost use Rattle.relay_path.specs.PathView.{AreDomainDrafts, IsDomainDraft, Stan
 
 use crate::domain::Domain;
 use crate::limits::{MAX_ISSUERS, MAX_LINKS, MAX_NODES};
-use file_lines::KeyDraft;
+use prin_text::KeyDraft;
 use std::alloc::{AllocError, Global};
 
 // What is said of a domain.

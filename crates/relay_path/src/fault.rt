@@ -3,7 +3,7 @@
 ghost use Rattle.std.specs.Prelude.{◌≡◌};
 ghost use Rattle.relay_path.specs.PathView.{file_cause};
 
-use file_lines::FileCause;
+use prin_text::FileCause;
 use std::error::Error;
 use std::fmt;
 

@@ -2,7 +2,7 @@
 
 ghost use Rattle.std.specs.Prelude.{◌≡◌, List, Option, Vec, true, IfOk, map};
 ghost use Rattle.byte_fields.specs.Steps.{with_fault};
-ghost use Rattle.file_lines.specs.LineView.{IsReadFor, TakesLine};
+ghost use Rattle.prin_text.specs.LineView.{IsReadFor, TakesLine};
 ghost use Rattle.relay_path.specs.Domains.{DomainKnows, LinksAgree, knows};
 ghost use Rattle.relay_path.specs.PathFile.{any_path_step, path_adds, path_in, path_step};
 ghost use Rattle.relay_path.specs.PathView.{AreDomainDrafts, file_fault, path_cause, StandForDomains};
@@ -13,7 +13,7 @@ use crate::domain_draft::{DomainDraft, domains_of};
 use crate::fault::{PathCause, PathFault};
 use crate::path_kind::{PathKind, path_kind};
 use crate::path_taking::{take_domain, take_issuer, take_link, take_node};
-use file_lines::{
+use prin_text::{
     FileCause, FileFault, LineFault, MAX_FILE, is_first_line, is_plain, is_skipped, line_at,
     word_off,
 };

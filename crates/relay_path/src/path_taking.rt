@@ -1,8 +1,8 @@
 //! What the lines of a path file add.
 
 ghost use Rattle.std.specs.Prelude.{◌≡◌, ◌∷◌, ◌++◌, [], List};
-ghost use Rattle.file_lines.specs.FileLines.{unless};
-ghost use Rattle.file_lines.specs.LineView.{TakesLine};
+ghost use Rattle.prin_text.specs.FileLines.{unless};
+ghost use Rattle.prin_text.specs.LineView.{TakesLine};
 ghost use Rattle.relay_path.specs.Domains.{DomainKnows};
 ghost use Rattle.relay_path.specs.PathFile.{are_two, domain_added, domain_cause, issuer_added};
 ghost use Rattle.relay_path.specs.PathFile.{link_added, new_domain, node_added, peer_added};
@@ -10,7 +10,7 @@ ghost use Rattle.relay_path.specs.PathView.{AreDomainDrafts};
 
 use crate::domain_draft::{DomainDraft, has_domain, new_draft, place_of};
 use crate::limits::MAX_DOMAINS;
-use file_lines::{FileCause, LineFault, add_key, one_number, two_numbers_and_key};
+use prin_text::{FileCause, LineFault, add_key, one_number, two_numbers_and_key};
 use std::alloc::Global;
 
 // One more domain.

@@ -5,8 +5,8 @@ use Rattle.std.proofs.lemmas.List.FromFn.{map-range_with_len_more}
 use Rattle.keyed_seal.specs.Keys.{AddsKey, Keys, key_of}
 use Rattle.object_core.specs.Objects.{ObjectPlan}
 use Rattle.prin_term.specs.View.{Grant}
-use Rattle.file_lines.specs.Held.{HoldsKeys}
-use Rattle.file_lines.proofs.KeyLookups.{adds_key}
+use Rattle.prin_text.specs.Held.{HoldsKeys}
+use Rattle.prin_text.proofs.KeyLookups.{adds_key}
 use Rattle.taos_drill.specs.Opened.{drill_channels, empty_object}
 use Rattle.taos_drill.specs.Words.{key_at}
 

@@ -4,7 +4,7 @@ ghost use Rattle.std.specs.Prelude.{◌≡◌, ◌+◌, ◌≤◌, List, [], ◌
 ghost use Rattle.std.specs.Prelude.{if◌then◌else◌};
 ghost use Rattle.std.specs.List.{range_with_len};
 ghost use Rattle.prin_term.specs.View.{grant};
-ghost use Rattle.file_lines.specs.Held.{HoldsKeys};
+ghost use Rattle.prin_text.specs.Held.{HoldsKeys};
 ghost use Rattle.node_file.specs.OpeningView.{Represents};
 ghost use Rattle.node_file.specs.Plans.{plan};
 ghost use Rattle.taos_drill.specs.Opened.{drill_channels, drill_objects, drill_opening};

@@ -17,8 +17,8 @@ use Rattle.taos_node.specs.Deciding.{FileDecides}
 use Rattle.frame_link.specs.Streams.{Stream}
 use Rattle.taos_node.specs.Calls.{LaneUsed, touched, first_of, used_of}
 use Rattle.taos_node.specs.Command.{with_seen}
-use Rattle.file_lines.specs.declared.fault.FileFault.{FileFault as Refusal}
-use Rattle.file_lines.specs.declared.fault.FileFault.TheVariants.{Line, Byte}
+use Rattle.prin_text.specs.declared.lines.fault.FileFault.{FileFault as Refusal}
+use Rattle.prin_text.specs.declared.lines.fault.FileFault.TheVariants.{Line, Byte}
 use Rattle.frame_link.proofs.Complete.{left_after}
 use Rattle.request_course.specs.World.{setting_of}
 use Rattle.taos_node.proofs.Stopped.{file_status}

@@ -6,7 +6,7 @@ use Rattle.frame_link.specs.declared.outcome.Outcome.{Outcome}
 use Rattle.frame_link.specs.declared.outcome.Outcome.TheVariants.{End, Truncated, TooLong, ReadFault, WriteFault, ClockFault, Spent, NoMemory}
 use Rattle.node_file.specs.Opening.{Opening}
 use Rattle.node_file.specs.RelayFile.{RelayFile}
-use Rattle.file_lines.specs.declared.fault.FileFault.TheVariants.{Line, Byte}
+use Rattle.prin_text.specs.declared.lines.fault.FileFault.TheVariants.{Line, Byte}
 use Rattle.frame_link.specs.Faults.{Rose}
 use Rattle.frame_link.specs.Served.{FaultCounts, CountsCause, IsComplete, line}
 use Rattle.frame_link.specs.Streams.{Stream, stream}

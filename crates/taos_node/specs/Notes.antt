@@ -2,8 +2,8 @@
 use Rattle.std.specs.Prelude.{◌≡◌, ℕ, ◌<◌, ◌≤◌, List, [], ◌++◌, length, Option, Some, None, codes, decimal}
 use Rattle.std.specs.Io.KnownBytes.{Appends}
 use Rattle.frame_link.specs.Faults.{Rose}
-use Rattle.file_lines.specs.declared.fault.FileCause.{FileCause}
-use Rattle.file_lines.specs.declared.fault.FileCause.TheVariants.{FirstLine, UnknownWord, Words, Number, Hex, Rights, UnknownDomain, NodeFirst, UnknownObject, UnknownName, Principal, Text, Certificate, Twice, Limit, NoNode}
+use Rattle.prin_text.specs.declared.lines.fault.FileCause.{FileCause}
+use Rattle.prin_text.specs.declared.lines.fault.FileCause.TheVariants.{FirstLine, UnknownWord, Words, Number, Hex, Rights, UnknownDomain, NodeFirst, UnknownObject, UnknownName, Principal, Text, Certificate, Twice, Limit, NoNode}
 use Rattle.taos_node.specs.declared.ending.Ending.{Ending}
 use Rattle.node_commands.specs.declared.minting.MintWord.{MintWord}
 use Rattle.node_commands.specs.declared.minting.MintWord.TheVariants as word

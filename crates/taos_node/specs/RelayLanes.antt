@@ -1,6 +1,6 @@
 -- What the lanes of a relay do, and what is printed of it.
 use Rattle.std.specs.Prelude.{ℕ, List, Option}
-use Rattle.file_lines.specs.Held.{HoldsKeys}
+use Rattle.prin_text.specs.Held.{HoldsKeys}
 use Rattle.frame_link.specs.Streams.{Stream}
 use Rattle.node_file.specs.RelayFile.{RelayFile}
 use Rattle.node_file.specs.RelayView.{StandsFor}

@@ -2,13 +2,13 @@
 
 ghost use Rattle.std.specs.Prelude.{◌≡◌, IsTrue};
 ghost use Rattle.prin_term.specs.View.{principal};
-ghost use Rattle.file_lines.specs.Lines.{is_plain};
-ghost use Rattle.file_lines.specs.LineView.{GivesLine};
+ghost use Rattle.prin_text.specs.Lines.{is_plain};
+ghost use Rattle.prin_text.specs.LineView.{GivesLine};
 ghost use Rattle.node_file.specs.NodeLines.{cause_of, grants_and, grants_with, who_said};
 ghost use Rattle.node_file.specs.NodeView.{TakesGrant};
 
 use crate::object_drafts::ObjectDrafts;
-use file_lines::{FileCause, LineFault, granted};
+use prin_text::{FileCause, LineFault, granted};
 use object_core::MAX_ENTRIES;
 use prin_term::{ENTRY_NODES, Entry, Term};
 use prin_text::{Names, TextCause, TextFault, read_principal};

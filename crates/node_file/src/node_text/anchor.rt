@@ -1,12 +1,12 @@
 //! The anchors of a node file.
 
 ghost use Rattle.std.specs.Prelude.{◌≡◌, ◌≤◌, IsTrue, length};
-ghost use Rattle.file_lines.specs.LineView.{TakesLine};
+ghost use Rattle.prin_text.specs.LineView.{TakesLine};
 ghost use Rattle.node_file.specs.NodeLines.{anchor_said, anchors_and, anchors_with, name_said};
 ghost use Rattle.prin_text.specs.Words.{begins};
 
 use crate::limits::MAX_ANCHORS;
-use file_lines::{FileCause, LineFault, number_up_to, numbered};
+use prin_text::{FileCause, LineFault, number_up_to, numbered};
 use prin_term::Anchor;
 use prin_text::Names;
 

@@ -2,14 +2,14 @@
 
 ghost use Rattle.std.specs.Prelude.{◌≡◌, map};
 ghost use Rattle.std.specs.Option.{option_map};
-ghost use Rattle.file_lines.specs.LineView.{GivesLine, TakesLine};
+ghost use Rattle.prin_text.specs.LineView.{GivesLine, TakesLine};
 ghost use Rattle.node_file.specs.NodeLines.{common_said, commons_and, commons_of, commons_with};
 ghost use Rattle.node_file.specs.OpeningView.{common};
 ghost use Rattle.stmt_codec.specs.Certificates.{certificate};
 
 use crate::limits::MAX_COMMONS;
 use crate::opening::common::is_among;
-use file_lines::{FileCause, LineFault, digits};
+use prin_text::{FileCause, LineFault, digits};
 use keyed_seal::Sealer;
 use sealed_cert::{SealFault, open_with};
 use std::alloc::Global;

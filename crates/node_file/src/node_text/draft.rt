@@ -1,7 +1,7 @@
 //! What the lines of a node file say so far.
 
 ghost use Rattle.std.specs.Prelude.{IfOk};
-ghost use Rattle.file_lines.specs.LineView.{IsSaidFor};
+ghost use Rattle.prin_text.specs.LineView.{IsSaidFor};
 ghost use Rattle.node_file.specs.NodeFile as meant;
 ghost use Rattle.node_file.specs.NodeFile.{no_draft, opening_said, opening_with};
 ghost use Rattle.node_file.specs.NodeView.{IsDraftOf};
@@ -12,7 +12,7 @@ use crate::node_text::settings::Settings;
 use crate::object_drafts::ObjectDrafts;
 use crate::opening::Opening;
 use crate::opening::reading::has_room;
-use file_lines::{FileCause, KeyDraft, LineFault};
+use prin_text::{FileCause, KeyDraft, LineFault};
 use prin_term::Anchor;
 use prin_text::Names;
 use std::alloc::{AllocError, Global};

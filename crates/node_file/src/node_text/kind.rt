@@ -3,7 +3,7 @@
 ghost use Rattle.std.specs.Prelude.{◌≡◌};
 ghost use Rattle.node_file.specs.NodeLines.{kind_of};
 
-use file_lines::is_word;
+use prin_text::is_word;
 
 // What one line may say once of the whole node.
 #[derive(Clone, Copy)]

@@ -1,8 +1,8 @@
 //! Taking the lines of a node file.
 
 ghost use Rattle.std.specs.Prelude.{◌≡◌, IsTrue, Option, true};
-ghost use Rattle.file_lines.specs.Lines.{is_plain};
-ghost use Rattle.file_lines.specs.LineView.{SoFar, TakesLine};
+ghost use Rattle.prin_text.specs.Lines.{is_plain};
+ghost use Rattle.prin_text.specs.LineView.{SoFar, TakesLine};
 ghost use Rattle.node_file.specs.NodeFile as meant;
 ghost use Rattle.node_file.specs.NodeFile.{adds, any_node_step, no_draft, node_step};
 ghost use Rattle.node_file.specs.NodeLines.{settings_with};
@@ -15,7 +15,7 @@ use crate::node_text::draft::Draft;
 use crate::node_text::kind::{LineKind, Setting, kind_of};
 use crate::node_text::object::{take_content, take_object};
 use crate::node_text::settings::{Settings, settings_with};
-use file_lines::{
+use prin_text::{
     FileCause, LineFault, is_first_line, is_plain, take_key, take_name, take_role, word_off,
 };
 use std::alloc::Global;

@@ -2,14 +2,14 @@
 
 ghost use Rattle.std.specs.Prelude.{◌≡◌, ℕ, List};
 ghost use Rattle.object_core.specs.Objects.{ObjectPlan as Plan};
-ghost use Rattle.file_lines.specs.LineView.{TakesLine};
+ghost use Rattle.prin_text.specs.LineView.{TakesLine};
 ghost use Rattle.node_file.specs.NodeLines.{contents_and, contents_with, empty_object};
 ghost use Rattle.node_file.specs.NodeLines.{objects_and, objects_with};
 ghost use Rattle.node_file.specs.Plans.{HoldsPlans, drafted};
 
 use crate::limits::MAX_OBJECTS;
 use crate::object_drafts::{ObjectDraft, ObjectDrafts};
-use file_lines::{FileCause, LineFault, numbered_digits, one_number};
+use prin_text::{FileCause, LineFault, numbered_digits, one_number};
 use object_core::MAX_CONTENT;
 use std::alloc::Global;
 

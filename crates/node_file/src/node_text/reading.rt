@@ -1,8 +1,8 @@
 //! Reading a node's opening from a text.
 
 ghost use Rattle.std.specs.Prelude.{◌≡◌, ◌≤◌, length};
-ghost use Rattle.file_lines.specs.Lines.{lines_from};
-ghost use Rattle.file_lines.specs.LineView.{IsReadFor};
+ghost use Rattle.prin_text.specs.Lines.{lines_from};
+ghost use Rattle.prin_text.specs.LineView.{IsReadFor};
 ghost use Rattle.node_file.specs.NodeFile.{draft_in, text_in};
 ghost use Rattle.node_file.specs.NodeView.{IsDraftOf};
 ghost use Rattle.node_file.specs.OpeningView.{IsReadAs};
@@ -11,7 +11,7 @@ ghost use Rattle.node_file.specs.declared.limits.TheConstants.{MAX_FILE};
 use crate::node_text::draft::{Draft, empty, opening_said};
 use crate::node_text::line::take_any;
 use crate::opening::Opening;
-use file_lines::{FileCause, FileFault, LineFault, is_skipped, line_at};
+use prin_text::{FileCause, FileFault, LineFault, is_skipped, line_at};
 use std::alloc::Global;
 
 // What the lines say together, and how many there are.

@@ -6,7 +6,7 @@ ghost use Rattle.node_file.specs.NodeLines.{settings_with, shards_with};
 
 use crate::limits::{MAX_KEEP, MAX_LIMIT, MAX_SHARDS};
 use crate::node_text::kind::Setting;
-use file_lines::{FileCause, keyed, one_number};
+use prin_text::{FileCause, keyed, one_number};
 
 // What the lines said: the node's number with the key of its relay, how many shards there are, the
 // seconds that a dead certificate stays, and the entries that a journal has room for.

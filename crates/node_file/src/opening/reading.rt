@@ -1,7 +1,7 @@
 //! Reading a node's opening from a file.
 
 ghost use Rattle.std.specs.Prelude.{◌≡◌, ◌≤◌, length, nat_le, IfOk, MatchResult};
-ghost use Rattle.file_lines.specs.declared.fault.FileFault.TheVariants.{NoMemory};
+ghost use Rattle.prin_text.specs.declared.lines.fault.FileFault.TheVariants.{NoMemory};
 ghost use Rattle.node_file.specs.declared.limits.TheConstants.{MAX_FILE};
 ghost use Rattle.node_file.specs.Meaning.{opening, FitsByNumber};
 ghost use Rattle.node_file.specs.Opening.{FitsOpening, Opening as Meaning, journal_room};
@@ -21,7 +21,7 @@ use crate::opening::head::head_of;
 use crate::opening::object::objects_of;
 use crate::opening::table::{anchors_of, channels_of};
 use byte_fields::{FormatFault, ended};
-use file_lines::{FileCause, FileFault};
+use prin_text::{FileCause, FileFault};
 use prin_text::Names;
 use std::alloc::Global;
 

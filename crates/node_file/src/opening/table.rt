@@ -7,12 +7,12 @@ ghost use Rattle.byte_fields.specs.declared.fault.FormatFault.TheVariants.{NoMem
 ghost use Rattle.node_file.specs.OpeningReading.{new_channel_at, channel_at, channels_at};
 ghost use Rattle.node_file.specs.OpeningReading.{anchor_at, anchors_at};
 ghost use Rattle.node_file.specs.OpeningView.{Agrees, WithEnd};
-ghost use Rattle.file_lines.specs.Held.{HoldsKeys};
+ghost use Rattle.prin_text.specs.Held.{HoldsKeys};
 ghost use Rattle.byte_fields.specs.Readers.{items_behind};
 
 use crate::limits::{MAX_ANCHORS, MAX_CHANNELS};
 use byte_fields::{FormatFault, array_at, count_up_to, ended, length_up_to, u32_at};
-use file_lines::KeyDraft;
+use prin_text::KeyDraft;
 use keyed_seal::KeyTable;
 use prin_term::Anchor;
 use std::alloc::Global;

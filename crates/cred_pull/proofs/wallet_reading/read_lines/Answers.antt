@@ -1,11 +1,11 @@
 -- What the whole wallet file means.
 use Rattle.std.proofs.Common.{◌≡◌, ◌⊎◌, true, false, cond, [], Err, Some, None, sym, ap, subst, ◌∙◌, arith, inr}
 use Rattle.std.specs.Prelude.{codes}
-use Rattle.file_lines.specs.declared.fault.FileFault.{FileFault}
-use Rattle.file_lines.specs.declared.fault.FileFault.TheVariants.{NoMemory}
-use Rattle.file_lines.specs.FileLines.{is_first_line}
-use Rattle.file_lines.specs.Lines.{is_skipped}
-use Rattle.file_lines.proofs.FileRead.{all_done, never_begun, stops_with}
+use Rattle.prin_text.specs.declared.lines.fault.FileFault.{FileFault}
+use Rattle.prin_text.specs.declared.lines.fault.FileFault.TheVariants.{NoMemory}
+use Rattle.prin_text.specs.FileLines.{is_first_line}
+use Rattle.prin_text.specs.Lines.{is_skipped}
+use Rattle.prin_text.proofs.FileRead.{all_done, never_begun, stops_with}
 use Rattle.cred_pull.specs.WalletFile.{wallet_in, wallet_step}
 use Rattle.cred_pull.specs.WalletView.{StandSoFar}
 use Rattle.cred_pull.proofs.WalletRead.{wallet_long, wallet_short, wallet_stops}

@@ -1,7 +1,7 @@
 use Rattle.std.proofs.Common.{◌≡◌, ◌+◌, ◌-◌, ◌≤◌, List, [], Option, None, length, map}
 use Rattle.std.specs.Prelude.{codes}
-use Rattle.file_lines.specs.FileLines.{first_or, is_first_line, lines_make}
-use Rattle.file_lines.specs.Lines.{lines_from}
+use Rattle.prin_text.specs.FileLines.{first_or, is_first_line, lines_make}
+use Rattle.prin_text.specs.Lines.{lines_from}
 use Rattle.cred_pull.specs.WalletFile.{AreShort, WalletRow, wallet_step}
 use Rattle.cred_pull.specs.WalletView.{StandSoFar, row_of}
 use Rattle.cred_pull.proofs.wallet_reading.read_lines.Given as goal

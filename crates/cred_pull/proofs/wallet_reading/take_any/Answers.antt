@@ -1,7 +1,7 @@
 use Rattle.std.proofs.Common.{[], sym, ◌∙◌}
 use Rattle.std.specs.Prelude.{codes}
-use Rattle.file_lines.specs.FileLines.{is_first_line}
-use Rattle.file_lines.proofs.Begun.{begun_taken, first_taken, no_first}
+use Rattle.prin_text.specs.FileLines.{is_first_line}
+use Rattle.prin_text.proofs.Begun.{begun_taken, first_taken, no_first}
 use Rattle.cred_pull.specs.WalletFile.{wallet_step}
 use Rattle.cred_pull.specs.WalletView.{AreRows}
 use Rattle.cred_pull.proofs.wallet_reading.take_any.Goals as goal

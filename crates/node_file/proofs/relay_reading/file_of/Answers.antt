@@ -1,5 +1,5 @@
 use Rattle.std.proofs.Common.{refl, ◌∙◌}
-use Rattle.file_lines.proofs.Added.{holds_what}
+use Rattle.prin_text.proofs.Added.{holds_what}
 use Rattle.node_file.proofs.relay_reading.file_of.Goals as goal
 
 pub returns : goal.returns

@@ -1,14 +1,14 @@
 -- What the whole relay file means.
 use Rattle.std.proofs.Common.{◌≡◌, ◌⊎◌, false, cond, Result, Err, Some, None, sym, ap, subst, ◌∙◌, arith, inr, true}
 use Rattle.std.specs.Prelude.{codes}
-use Rattle.file_lines.specs.declared.fault.FileFault.{FileFault}
-use Rattle.file_lines.specs.declared.fault.FileFault.TheVariants.{NoMemory}
-use Rattle.file_lines.specs.FileLines.{is_first_line}
-use Rattle.file_lines.specs.Lines.{is_skipped}
-use Rattle.file_lines.specs.LineView.{IsReadFor}
+use Rattle.prin_text.specs.declared.lines.fault.FileFault.{FileFault}
+use Rattle.prin_text.specs.declared.lines.fault.FileFault.TheVariants.{NoMemory}
+use Rattle.prin_text.specs.FileLines.{is_first_line}
+use Rattle.prin_text.specs.Lines.{is_skipped}
+use Rattle.prin_text.specs.LineView.{IsReadFor}
 use Rattle.node_file.specs.RelayFile.{RelayFile, no_relay, relay_in, relay_step}
 use Rattle.node_file.specs.RelayView.{StandsFor, StandsSoFar}
-use Rattle.file_lines.proofs.FileRead.{all_done, never_begun, stops_with}
+use Rattle.prin_text.proofs.FileRead.{all_done, never_begun, stops_with}
 use Rattle.node_file.proofs.RelayRead.{relay_long, relay_short, relay_stops}
 use Rattle.node_file.proofs.relay_reading.read_relay_file.Goals as goal
 

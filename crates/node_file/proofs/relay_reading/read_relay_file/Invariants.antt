@@ -1,7 +1,7 @@
 use Rattle.std.proofs.Common.{◌≡◌, ◌+◌, ◌-◌, ◌≤◌, Option, None, length}
 use Rattle.std.specs.Prelude.{codes}
-use Rattle.file_lines.specs.FileLines.{first_or, is_first_line, lines_make}
-use Rattle.file_lines.specs.Lines.{lines_from}
+use Rattle.prin_text.specs.FileLines.{first_or, is_first_line, lines_make}
+use Rattle.prin_text.specs.Lines.{lines_from}
 use Rattle.node_file.specs.RelayFile.{RelayFile, no_relay, relay_step}
 use Rattle.node_file.specs.RelayView.{StandsSoFar}
 use Rattle.node_file.proofs.relay_reading.read_relay_file.Given as goal

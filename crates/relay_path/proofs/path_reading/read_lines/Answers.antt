@@ -2,12 +2,12 @@
 use Rattle.std.proofs.Common.{◌≡◌, ◌⊎◌, false, cond, List, [], Result, Ok, Err, Some, None, Vec, sym, ap, subst, ◌∙◌, arith, inl, inr, true, refl}
 use Rattle.std.specs.Prelude.{codes}
 use Rattle.std.specs.declared.alloc.Global.{Global}
-use Rattle.file_lines.specs.declared.fault.FileFault.{FileFault}
-use Rattle.file_lines.specs.declared.fault.FileFault.TheVariants.{NoMemory}
-use Rattle.file_lines.specs.FileLines.{is_first_line}
-use Rattle.file_lines.specs.Lines.{is_skipped}
-use Rattle.file_lines.specs.LineView.{IsReadFor}
-use Rattle.file_lines.proofs.FileRead.{all_done, never_begun, stops_with}
+use Rattle.prin_text.specs.declared.lines.fault.FileFault.{FileFault}
+use Rattle.prin_text.specs.declared.lines.fault.FileFault.TheVariants.{NoMemory}
+use Rattle.prin_text.specs.FileLines.{is_first_line}
+use Rattle.prin_text.specs.Lines.{is_skipped}
+use Rattle.prin_text.specs.LineView.{IsReadFor}
+use Rattle.prin_text.proofs.FileRead.{all_done, never_begun, stops_with}
 use Rattle.relay_path.specs.declared.domain.Domain.{Domain}
 use Rattle.relay_path.specs.declared.domain_draft.DomainDraft.{DomainDraft}
 use Rattle.relay_path.specs.Domains.{DomainKnows}

@@ -1,7 +1,7 @@
 use Rattle.std.proofs.Common.{◌≡◌, ◌+◌, ◌-◌, ◌≤◌, List, [], Option, None, length}
 use Rattle.std.specs.Prelude.{codes}
-use Rattle.file_lines.specs.FileLines.{first_or, is_first_line, lines_make}
-use Rattle.file_lines.specs.Lines.{lines_from}
+use Rattle.prin_text.specs.FileLines.{first_or, is_first_line, lines_make}
+use Rattle.prin_text.specs.Lines.{lines_from}
 use Rattle.relay_path.specs.Domains.{DomainKnows}
 use Rattle.relay_path.specs.PathFile.{path_step}
 use Rattle.relay_path.specs.PathView.{StandSoFar}

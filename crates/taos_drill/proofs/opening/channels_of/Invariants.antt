@@ -1,6 +1,6 @@
 use Rattle.std.proofs.Common.{◌≡◌, ◌<◌, ℕ, length, None}
 use Rattle.keyed_seal.specs.Keys.{key_of}
-use Rattle.file_lines.specs.Held.{HoldsKeys}
+use Rattle.prin_text.specs.Held.{HoldsKeys}
 use Rattle.taos_drill.specs.Opened.{drill_channels}
 use Rattle.taos_drill.specs.Words.{keys_of}
 use Rattle.taos_drill.proofs.opening.channels_of.Given as goal

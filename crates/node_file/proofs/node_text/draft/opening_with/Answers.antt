@@ -7,7 +7,7 @@ use Rattle.object_core.specs.Objects.{ObjectPlan}
 use Rattle.prin_term.specs.declared.term.Anchor.{Anchor}
 use Rattle.node_file.specs.declared.node_text.settings.Settings.{Settings}
 use Rattle.node_file.specs.Plans.{HoldsPlans}
-use Rattle.file_lines.proofs.Added.{holds_what}
+use Rattle.prin_text.proofs.Added.{holds_what}
 use Rattle.node_file.proofs.node_text.draft.opening_with.Goals as goal
 
 pub returns : goal.returns

@@ -1,9 +1,9 @@
 use Rattle.std.proofs.Common.{sym, ◌∙◌}
 use Rattle.std.specs.Prelude.{codes}
-use Rattle.file_lines.specs.FileLines.{is_first_line}
+use Rattle.prin_text.specs.FileLines.{is_first_line}
 use Rattle.node_file.specs.NodeFile.{no_draft, node_step}
 use Rattle.node_file.specs.NodeView.{IsDraftOf}
-use Rattle.file_lines.proofs.Begun.{begun_taken, first_taken, no_first}
+use Rattle.prin_text.proofs.Begun.{begun_taken, first_taken, no_first}
 use Rattle.node_file.proofs.node_text.line.take_any.Goals as goal
 
 pub returns-then-begun : goal.returns-then-begun

@@ -1,6 +1,6 @@
 use Rattle.std.proofs.Common.{List, ℕ, ap, sym, ◌∙◌}
-use Rattle.file_lines.specs.Lines.{is_plain}
-use Rattle.file_lines.proofs.Plain.{plain_rest}
+use Rattle.prin_text.specs.Lines.{is_plain}
+use Rattle.prin_text.proofs.Plain.{plain_rest}
 use Rattle.node_file.proofs.node_text.line.take_line.Goals as goal
 
 -- what stands behind the first word of a plain line is plain

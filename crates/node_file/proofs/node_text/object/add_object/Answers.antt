@@ -3,7 +3,7 @@ use Rattle.std.specs.Option.{is_some}
 use Rattle.object_core.specs.Objects.{ObjectPlan, object_of}
 use Rattle.node_file.specs.NodeLines.{empty_object}
 use Rattle.node_file.specs.Plans.{AddsPlan, drafted}
-use Rattle.file_lines.proofs.Added.{none_from}
+use Rattle.prin_text.proofs.Added.{none_from}
 use Rattle.node_file.proofs.Lookups.{adds_plan, some_map}
 use Rattle.node_file.proofs.NodeAdded.{object_fits, object_full, object_twice}
 use Rattle.node_file.proofs.node_text.object.add_object.Goals as goal

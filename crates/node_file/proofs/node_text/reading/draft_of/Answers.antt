@@ -1,14 +1,14 @@
 -- What the lines say together.
 use Rattle.std.proofs.Common.{◌≡◌, ◌⊎◌, true, false, cond, Err, Some, None, sym, ap, subst, ◌∙◌, arith, inr}
 use Rattle.std.specs.Prelude.{codes}
-use Rattle.file_lines.specs.declared.fault.FileFault.{FileFault}
-use Rattle.file_lines.specs.declared.fault.FileFault.TheVariants.{NoMemory}
-use Rattle.file_lines.specs.FileLines.{is_first_line}
-use Rattle.file_lines.specs.Lines.{is_skipped}
-use Rattle.file_lines.specs.LineView.{SoFar}
+use Rattle.prin_text.specs.declared.lines.fault.FileFault.{FileFault}
+use Rattle.prin_text.specs.declared.lines.fault.FileFault.TheVariants.{NoMemory}
+use Rattle.prin_text.specs.FileLines.{is_first_line}
+use Rattle.prin_text.specs.Lines.{is_skipped}
+use Rattle.prin_text.specs.LineView.{SoFar}
 use Rattle.node_file.specs.NodeFile.{draft_in, no_draft, node_step}
 use Rattle.node_file.specs.NodeView.{IsDraftOf}
-use Rattle.file_lines.proofs.FileRead.{all_done, line_count, never_begun, stops_with}
+use Rattle.prin_text.proofs.FileRead.{all_done, line_count, never_begun, stops_with}
 use Rattle.node_file.proofs.node_text.reading.draft_of.Goals as goal
 
 pub returns-in-Err : goal.returns-in-Err

@@ -1,11 +1,11 @@
 use Rattle.std.proofs.Common.{◌≡◌, ◌+◌, ◌-◌, ◌≤◌, Option, None, length}
 use Rattle.std.specs.Prelude.{codes}
-use Rattle.file_lines.specs.FileLines.{is_first_line}
-use Rattle.file_lines.specs.Lines.{lines_from}
-use Rattle.file_lines.specs.LineView.{SoFar}
+use Rattle.prin_text.specs.FileLines.{is_first_line}
+use Rattle.prin_text.specs.Lines.{lines_from}
+use Rattle.prin_text.specs.LineView.{SoFar}
 use Rattle.node_file.specs.NodeFile.{Draft, no_draft, node_step}
 use Rattle.node_file.specs.NodeView.{IsDraftOf}
-use Rattle.file_lines.specs.FileLines.{first_or, lines_make}
+use Rattle.prin_text.specs.FileLines.{first_or, lines_make}
 use Rattle.node_file.proofs.node_text.reading.draft_of.Given as goal
 
 -- the lines before the offset are taken, and those behind it make the rest

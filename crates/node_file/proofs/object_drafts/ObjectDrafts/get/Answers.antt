@@ -2,7 +2,7 @@ use Rattle.std.proofs.Common.{List, sym, ap, ◌∙◌}
 use Rattle.std.specs.Option.{option_map}
 use Rattle.object_core.specs.Objects.{ObjectPlan, object_of}
 use Rattle.node_file.specs.Plans.{drafted}
-use Rattle.file_lines.proofs.Gathered.{shown}
+use Rattle.prin_text.proofs.Gathered.{shown}
 use Rattle.node_file.proofs.GatheredObjects.{object_of-get}
 use Rattle.node_file.proofs.object_drafts.ObjectDrafts.get.Goals as goal
 

@@ -4,7 +4,7 @@ use Rattle.node_file.specs.Opening.{Opening, no_texts}
 use Rattle.node_file.specs.OpeningReading.{anchors_at}
 use Rattle.node_file.specs.OpeningView.{common}
 use Rattle.prin_text.specs.Labels.{Labels}
-use Rattle.file_lines.proofs.Rows.{no_rows}
+use Rattle.prin_text.proofs.Rows.{no_rows}
 use Rattle.node_file.proofs.Whole.{fields_are}
 use Rattle.node_file.proofs.opening.reading.fields_of.Goals as goal
 

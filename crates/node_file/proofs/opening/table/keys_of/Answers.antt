@@ -4,7 +4,7 @@ use Rattle.keyed_seal.specs.Keys.{AddsKey, Keys, key_of}
 use Rattle.byte_fields.specs.declared.fault.FormatFault.TheVariants.{NoMemory}
 use Rattle.node_file.specs.OpeningReading.{channel_at}
 use Rattle.byte_fields.specs.Readers.{items_behind}
-use Rattle.file_lines.proofs.KeyLookups.{adds_key}
+use Rattle.prin_text.proofs.KeyLookups.{adds_key}
 use Rattle.byte_fields.proofs.Loops.{begins, goes_on, stops, is_done}
 use Rattle.node_file.proofs.opening.table.keys_of.Goals as goal
 

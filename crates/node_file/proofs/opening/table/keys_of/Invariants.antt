@@ -1,6 +1,6 @@
 use Rattle.std.proofs.Common.{◌≡◌, ◌≤◌, ℕ, List, [], length}
 use Rattle.node_file.specs.OpeningReading.{channel_at}
-use Rattle.file_lines.specs.Held.{HoldsKeys}
+use Rattle.prin_text.specs.Held.{HoldsKeys}
 use Rattle.byte_fields.specs.Readers.{items_behind}
 use Rattle.byte_fields.proofs.Loops.{IsSoFar}
 use Rattle.node_file.proofs.opening.table.keys_of.Given as goal
