@@ -11,7 +11,7 @@ use Rattle.agent_shards.specs.Each.{Each3}
 use Rattle.run_laws.specs.Lanes.{AnswersLane, HadMemory}
 use Rattle.run_laws.specs.LoadLaws.{LoadIsCounted}
 use Rattle.run_laws.specs.Requests.{IsLoadNode}
-use Rattle.node_words.specs.Words.{DrillWords}
+use Rattle.node_commands.specs.Words.{DrillWords}
 use Rattle.object_core.specs.Shelving.{numbers_of as object_numbers}
 use Rattle.taos_drill.specs.Opened.{drill_opening}
 use Rattle.taos_drill.specs.Words.{key_at}

@@ -31,7 +31,7 @@ use Rattle.drill_run.specs.declared.serving.DrillEnd.{DrillEnd}
 use Rattle.drill_run.specs.declared.serving.DrillEnd.TheVariants as drill
 use Rattle.taos_lanes.specs.Opened.{ServesOpening}
 use Rattle.taos_lanes.specs.Summary.{drill_line}
-use Rattle.node_words.specs.Words.{DrillWords}
+use Rattle.node_commands.specs.Words.{DrillWords}
 
 -- a connection of a drill: bytes in memory, and a sink that grows
 abbrev pub Wire : Type 0

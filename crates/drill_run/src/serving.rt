@@ -5,12 +5,12 @@ ghost use Rattle.taos_lanes.specs.Serving.{left_by};
 ghost use Rattle.taos_wire.specs.View.{text_of};
 ghost use Rattle.taos_drill.specs.declared.numbers.TheConstants.{MAX_LANES, MAX_REQUESTS};
 ghost use Rattle.drill_run.specs.Drills.{AreDrillLanes, DrillCauses, Drills, IsDrillLane, ServesDrill, drill_shown};
-ghost use Rattle.node_words.specs.Words.{drill_words};
+ghost use Rattle.node_commands.specs.Words.{drill_words};
 ghost use Rattle.std.specs.declared.alloc.Global.{Global};
 
 use cred_pull::NoFetch;
 use frame_link::{Failed, Limits, MemClock, MemDoor, MemSource, NoRelay, Sink, pour};
-use node_words::Drill;
+use node_commands::Drill;
 use run_laws::loads_are_counted;
 use std::alloc::{AllocError, Global};
 use std::sync::Wait;

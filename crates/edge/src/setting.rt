@@ -1,6 +1,6 @@
 //! What the words behind the options say.
 
-use node_words::Wanted;
+use node_commands::Wanted;
 
 /// What the words say.
 #[derive(Drop)]

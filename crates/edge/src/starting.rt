@@ -6,7 +6,7 @@ use crate::setting::{Setting, serves_doors};
 use crate::telling::{Told, served_of};
 use node_status::{Addresses, Bounds, Ended, Started, ended_line, started_line};
 use node_telling::{Form, Listener, seconds_of};
-use node_words::Wanted;
+use node_commands::Wanted;
 use std::alloc::{AllocError, Global};
 use std::fmt::Display;
 use std::io::Write;

@@ -11,7 +11,7 @@ use node_telling::{
     Counted, Counting, Form, Journals, Listener, NoticeQueue, Rounds, Scribe, StatusDoor, Stop,
     Tally, Teller, Tells, notices_of, teller_of,
 };
-use node_words::Wanted;
+use node_commands::Wanted;
 use std::alloc::{AllocError, Global};
 use std::fs::File;
 use std::io;

@@ -1,3 +1,14 @@
+pub mod Made
+pub mod Routes
+pub mod Options
+pub mod Rows
+pub mod Walks
+pub mod Lines
+pub mod Levels
+pub mod Meanings
+pub mod Found
+pub mod Drilled
+pub mod Tasks
 pub mod Entries
 pub mod Looked
 pub mod Meant

@@ -14,7 +14,7 @@ use Rattle.prin_term.specs.Principal.{Key, Name, And, Quoting, InRole, For}
 use Rattle.std.specs.Prelude.{IfErr}
 use Rattle.stmt_codec.specs.Certificates.{Certificate, IsWithinLimits}
 use Rattle.prin_text.specs.Held.{HoldsRows}
-use Rattle.node_words.specs.Words.{MintWords}
+use Rattle.node_commands.specs.Words.{MintWords}
 use Rattle.node_commands.specs.Minting.{Begins, AsksFor, IsBadQuote, IsFirstWrong, IsMinted, IsMoment, IsNobody, IsQuoted, IsStopped, IsWrong, Mints, rank}
 use Rattle.node_commands.specs.declared.minting.MintWord.{MintWord}
 use Rattle.node_commands.specs.declared.minting.MintWord.TheVariants as word

@@ -8,7 +8,7 @@ use Rattle.node_commands.specs.Findings.{TakesNext, TakesOne}
 use Rattle.std.specs.Prelude.{Option, Some, None}
 use Rattle.std.specs.Borrow.{Bor}
 use Rattle.std.specs.Option.{option_map}
-use Rattle.node_words.specs.Words.{PathWords}
+use Rattle.node_commands.specs.Words.{PathWords}
 use Rattle.relay_path.specs.declared.answer.Along.{Along}
 use Rattle.relay_path.specs.Domains.{DomainKnows}
 use Rattle.relay_path.specs.Paths.{Goes}

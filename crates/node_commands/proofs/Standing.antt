@@ -12,7 +12,7 @@ use Rattle.relay_path.specs.Domains.{DomainKnows, domain_of, HasNode, HasPeer, I
 use Rattle.relay_path.specs.Hopping.{front_for, IsHop, OpensHere, Returns, sender_key, target_key, is_of_wrong_kind, is_malformed, is_of_nobody_known, is_badly_sealed, is_a_loop, goes_too_far, is_for_nobody_known, is_passed}
 use Rattle.relay_path.specs.PathView.{StandForDomains, StandsForDomain}
 use Rattle.relay_path.specs.Paths.{AreKeys, HopsAt, IsKeyTo, IsPath, IsStopped, OpensAtFirst, Reaches, first, next, is_carried, is_no_domain, is_refused}
-use Rattle.node_words.specs.Words.{PathWords}
+use Rattle.node_commands.specs.Words.{PathWords}
 use Rattle.node_commands.specs.declared.path.PathEnd.{PathEnd}
 use Rattle.node_commands.specs.declared.path.PathEnd.TheVariants as ends
 use Rattle.node_commands.specs.Paths.{AreLines, Passes}

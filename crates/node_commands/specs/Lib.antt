@@ -1,3 +1,6 @@
+pub mod Routes
+pub mod Words
+pub mod Table
 pub mod Checking
 pub mod Files
 pub mod Findings

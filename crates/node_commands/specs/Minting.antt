@@ -10,7 +10,7 @@ use Rattle.prin_text.specs.Labels.{Labels}
 use Rattle.prin_text.specs.Meaning.{IsTextWithin}
 use Rattle.sealed_cert.specs.Seals.{OpensIssued}
 use Rattle.stmt_codec.specs.Certificates.{Certificate, IsWithinLimits}
-use Rattle.node_words.specs.Words.{MintWords}
+use Rattle.node_commands.specs.Words.{MintWords}
 use Rattle.node_commands.specs.declared.minting.MintWord.{MintWord}
 use Rattle.node_commands.specs.declared.minting.MintWord.TheVariants as word
 use Rattle.node_commands.specs.declared.minting.MintStop.{MintStop}

@@ -4,7 +4,7 @@ use Rattle.std.specs.Io.KnownBytes.{Appends, Keeps}
 use Rattle.frame_link.specs.declared.frame.Next.TheVariants as next
 use Rattle.frame_link.specs.Faults.{Rose}
 use Rattle.node_commands.specs.Findings.{TakesNext, TakesOne}
-use Rattle.node_words.specs.Words.{PathWords}
+use Rattle.node_commands.specs.Words.{PathWords}
 use Rattle.relay_core.specs.declared.message.TheConstants.{MAX_CERT}
 use Rattle.relay_path.specs.Domains.{DomainKnows}
 use Rattle.relay_path.specs.Paths.{IsPath, IsStopped, line_of}

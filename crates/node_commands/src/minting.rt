@@ -8,13 +8,13 @@ ghost use Rattle.prin_text.specs.Meaning.{IsTextWithin};
 ghost use Rattle.sealed_cert.specs.Seals.{OpensIssued};
 ghost use Rattle.stmt_codec.specs.Certificates.{certificate, IsWithinLimits};
 ghost use Rattle.node_commands.specs.Minting.{AreTimes, AsksFor, Begins, HasNoTimes, IsBadQuote, IsMinted, IsMoment, IsNobody, IsQuoted, IsStopped, MintCauses, Mints, minted_line};
-ghost use Rattle.node_words.specs.Words.{mint_words};
+ghost use Rattle.node_commands.specs.Words.{mint_words};
 
 use credential_kit::{Signer, issue_body};
 use frame_link::{Failed, Sink, pour};
 use jiff::Timestamp;
 use node_file::RelayFile;
-use node_words::Mint;
+use crate::words::wanted::Mint;
 use prin_term::Term;
 use prin_text::{Names, TextFault, read_principal};
 use std::alloc::{AllocError, Global};

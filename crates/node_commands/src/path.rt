@@ -6,13 +6,13 @@ ghost use Rattle.std.specs.declared.alloc.Global.{Global};
 ghost use Rattle.frame_link.specs.declared.frame.Next.TheVariants as next;
 ghost use Rattle.frame_link.specs.Faults.{HasCause};
 ghost use Rattle.node_commands.specs.Findings.{TakesNext, TakesOne};
-ghost use Rattle.node_words.specs.Words.{path_words};
+ghost use Rattle.node_commands.specs.Words.{path_words};
 ghost use Rattle.relay_core.specs.declared.message.TheConstants.{MAX_CERT};
 ghost use Rattle.relay_path.specs.Domains.{LinksAgree, knows};
 ghost use Rattle.node_commands.specs.Paths.{AreLines, HasNoLines, PathCauses, Passes, bytes_or_none};
 
 use frame_link::{Failed, FrameBuf, Next, Sink, Source, next_frame, pour};
-use node_words::Path;
+use crate::words::wanted::Path;
 use relay_core::MAX_CERT;
 use relay_path::{Along, Domain, along};
 use std::alloc::Global;

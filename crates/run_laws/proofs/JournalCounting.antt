@@ -10,7 +10,7 @@ use Rattle.object_core.specs.Objects.{ObjectEntry, is_grant}
 use Rattle.object_core.specs.Shelving.{ObjectFixed, fixed_at, numbers_of}
 use Rattle.object_core.specs.declared.ruling.Ruling.{Ruling}
 use Rattle.object_core.specs.declared.ruling.Ruling.TheVariants as rulings
-use Rattle.node_words.specs.Words.{DrillWords}
+use Rattle.node_commands.specs.Words.{DrillWords}
 use Rattle.taos_drill.specs.Words.{is_even, word_of}
 use Rattle.request_course.specs.Cells.{Node, Journals}
 use Rattle.turn_cell.specs.Journal.{times}

@@ -19,7 +19,7 @@ use Rattle.agent_core.specs.Journals.{Entry, entry}
 use Rattle.agent_core.specs.Asked.{IsGrantedAt, by_kept, was_kept, was_dropped, had_no_room}
 use Rattle.proof_cache.specs.Cached.{Cached}
 use Rattle.run_laws.specs.Load.{AsksAt, IsLoadEntry, IsLoadJournal, IsLoadList, asks, keeps, load_ask}
-use Rattle.node_words.specs.Words.{DrillWords}
+use Rattle.node_commands.specs.Words.{DrillWords}
 use Rattle.taos_drill.specs.Opened.{reader}
 use Rattle.taos_drill.specs.Sent.{number_of, requests_of}
 use Rattle.taos_drill.specs.Words.{is_even, word_of}

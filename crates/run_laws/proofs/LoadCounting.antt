@@ -12,7 +12,7 @@ use Rattle.agent_core.specs.State.{Plan}
 use Rattle.object_core.specs.Objects.{ObjectEntry, ObjectSeen, is_grant}
 use Rattle.object_core.specs.OneOwner.{journal_of}
 use Rattle.object_core.specs.Shelving.{ObjectFixed, fixed_of, numbers_of}
-use Rattle.node_words.specs.Words.{DrillWords}
+use Rattle.node_commands.specs.Words.{DrillWords}
 use Rattle.taos_lanes.specs.Serving.{journal_on, journals_of}
 use Rattle.request_course.specs.Cells.{Node, Journals}
 use Rattle.run_laws.specs.Counts.{CountsJournals, CountsLoad}

@@ -5,7 +5,7 @@ use Rattle.std.specs.List.{AllZip, flat_map, range_with_len}
 use Rattle.std.proofs.lemmas.Bool.{cases_lt}
 use Rattle.std.proofs.lemmas.Bool.Decides.{nat_tests}
 use Rattle.std.proofs.lemmas.Nat.{div-add-mod', mul-le}
-use Rattle.node_words.specs.Words.{DrillWords}
+use Rattle.node_commands.specs.Words.{DrillWords}
 use Rattle.taos_drill.specs.Sent.{number_of}
 use Rattle.request_course.specs.Cells.{Node, Journals, OfShard, in_shard, IsAfter}
 use Rattle.run_laws.specs.Requests.{its_shard}

@@ -17,7 +17,7 @@ use Rattle.agent_core.specs.Asked.{by_kept, was_kept, was_dropped, had_no_room}
 use Rattle.proof_cache.specs.Cached.{Cached}
 use Rattle.run_laws.specs.Load.{AsksAt, IsLoadJournal, KeepsInTime, load_ask}
 use Rattle.run_laws.proofs.Hitting.{asks_judged, first_misses, later_hit, reader_not_denied}
-use Rattle.node_words.specs.Words.{DrillWords}
+use Rattle.node_commands.specs.Words.{DrillWords}
 use Rattle.taos_drill.specs.Opened.{reader}
 use Rattle.taos_drill.specs.Sent.{number_of, requests_of}
 use Rattle.taos_drill.specs.Words.{is_even, word_of}

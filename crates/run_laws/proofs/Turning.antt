@@ -22,7 +22,7 @@ use Rattle.agent_core.specs.State.{Plan, Event, Asks}
 use Rattle.agent_core.specs.Journals.{Entry, entry, Begins, Stands}
 use Rattle.agent_core.specs.Asked.{IsTold}
 use Rattle.run_laws.specs.Load.{AsksAt, load_ask}
-use Rattle.node_words.specs.Words.{DrillWords}
+use Rattle.node_commands.specs.Words.{DrillWords}
 use Rattle.taos_drill.specs.declared.numbers.TheConstants.{READING}
 use Rattle.taos_drill.specs.Opened.{drill_objects, empty_object, reader}
 use Rattle.taos_drill.specs.Sent.{drill_certificate, drill_request, number_of, payload_of, presented}

@@ -4,7 +4,7 @@ use Rattle.std.specs.List.{list_any, range_with_len}
 use Rattle.agent_core.specs.Journals.{ShardSeen}
 use Rattle.object_core.specs.Objects.{ObjectEntry, ObjectSeen, is_grant}
 use Rattle.object_core.specs.Shelving.{numbers_of}
-use Rattle.node_words.specs.Words.{DrillWords}
+use Rattle.node_commands.specs.Words.{DrillWords}
 use Rattle.taos_drill.specs.Sent.{requests_of}
 use Rattle.taos_drill.specs.Words.{is_even, word_of}
 use Rattle.request_course.specs.Cells.{Node, Journals}

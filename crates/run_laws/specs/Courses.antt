@@ -1,6 +1,6 @@
 -- What the laws of a drill's requests at its node say.
 use Rattle.std.specs.Prelude.{◌≡◌, ◌≢◌, ℕ, ◌<◌, All}
-use Rattle.node_words.specs.Words.{DrillWords}
+use Rattle.node_commands.specs.Words.{DrillWords}
 use Rattle.taos_drill.specs.declared.numbers.TheConstants.{READING}
 use Rattle.taos_drill.specs.Sent.{payload_of}
 use Rattle.request_course.specs.Cells.{Node, Journals}

@@ -6,7 +6,7 @@ use Rattle.agent_core.specs.Journals.{ShardSeen}
 use Rattle.object_core.specs.Objects.{ObjectSeen}
 use Rattle.object_core.specs.Shelving.{fixed_of}
 use Rattle.run_laws.specs.Load.{IsLoadJournal}
-use Rattle.node_words.specs.Words.{DrillWords}
+use Rattle.node_commands.specs.Words.{DrillWords}
 use Rattle.taos_lanes.specs.Lanes.{LaneRun, ServesAll}
 use Rattle.taos_lanes.specs.Serving.{journals_of}
 use Rattle.request_course.specs.Cells.{Node, Journals}

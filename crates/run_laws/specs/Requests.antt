@@ -8,7 +8,7 @@ use Rattle.prin_term.specs.View.{Grant}
 use Rattle.agent_core.specs.Opened.{plan_for, plans_for}
 use Rattle.agent_core.specs.State.{Plan, Ask}
 use Rattle.run_laws.specs.Load.{load_ask}
-use Rattle.node_words.specs.Words.{DrillWords}
+use Rattle.node_commands.specs.Words.{DrillWords}
 use Rattle.taos_drill.specs.declared.numbers.TheConstants.{MAX_LANES, MAX_REQUESTS}
 use Rattle.taos_drill.specs.Opened.{drill_channels, drill_objects, empty_object, issuer_anchor, reader}
 use Rattle.taos_drill.specs.Sent.{channel_of, number_of, object_for}

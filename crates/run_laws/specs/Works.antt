@@ -13,7 +13,7 @@ use Rattle.agent_core.specs.Asked.{IsDeniedAt, IsGrant}
 use Rattle.agent_core.specs.Journals.{Begins}
 use Rattle.agent_core.specs.State.{Plan}
 use Rattle.run_laws.specs.Load.{AsksAt, load_ask}
-use Rattle.node_words.specs.Words.{DrillWords}
+use Rattle.node_commands.specs.Words.{DrillWords}
 use Rattle.taos_drill.specs.Sent.{number_of, requests_of}
 use Rattle.request_course.specs.AtObject.{ruled_as}
 use Rattle.request_course.specs.Cells.{Node, Journals, Cell, Place, IsAfter, AreLegal, entries_in, in_object, in_shard, numbers_in}

@@ -1,6 +1,6 @@
 //! Laws of a node under the load of a drill, each the contract of a function that does nothing.
 
-ghost use Rattle.node_words.specs.Words.{DrillWords};
+ghost use Rattle.node_commands.specs.Words.{DrillWords};
 ghost use Rattle.request_course.specs.Cells.{Node};
 ghost use Rattle.run_laws.specs.Courses.{CoursesAreTurned, ShardsAreLoads, WorksAreCounted};
 

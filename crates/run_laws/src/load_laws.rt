@@ -1,7 +1,7 @@
 //! What the lanes of a drill leave in the journals of its node.
 
 ghost use Rattle.std.specs.Prelude.{ℕ};
-ghost use Rattle.node_words.specs.Words.{DrillWords};
+ghost use Rattle.node_commands.specs.Words.{DrillWords};
 ghost use Rattle.request_course.specs.Cells.{Node};
 ghost use Rattle.run_laws.specs.LoadLaws.{LoadIsCounted, ShardsHaveLoads};
 

@@ -23,7 +23,7 @@ use Rattle.taos_node.specs.Deciding.{FileDecides}
 use Rattle.node_commands.specs.Paths.{PathCauses}
 use Rattle.node_commands.specs.declared.path.PathEnd.{PathEnd}
 use Rattle.node_commands.specs.declared.path.PathEnd.TheVariants as passed_ends
-use Rattle.node_words.specs.Words.{Drill, DrillWords, Mean, Path, PathWords}
+use Rattle.node_commands.specs.Words.{Drill, DrillWords, Mean, Path, PathWords}
 use Rattle.taos_node.proofs.Commands.{decided_opened, still}
 use Rattle.node_commands.proofs.Meant.{node_files, path_files}
 use Rattle.taos_node.proofs.Statuses.{Rises, all_same, by_read, by_write, ended, same_counts, serving_rises, stays}

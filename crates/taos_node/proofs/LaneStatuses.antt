@@ -30,7 +30,7 @@ use Rattle.taos_node.specs.Stops.{status_of}
 use Rattle.node_commands.specs.Files.{FaultHasCause, FileFails, HasFailed, IsNodeFile, IsRelayFile, IsSteady, node_means, relay_means}
 use Rattle.taos_node.specs.Lanes.{HasNoneFailed, LanesCauses, PrintsLine, ServesLanes, served, unserved}
 use Rattle.taos_node.specs.RelayLanes.{RelaysDoors}
-use Rattle.node_words.specs.Words.{Mean, RelayServe, Serve, ServeWords, Task}
+use Rattle.node_commands.specs.Words.{Mean, RelayServe, Serve, ServeWords, Task}
 use Rattle.taos_node.proofs.Commands.{still}
 use Rattle.node_commands.proofs.Meant.{node_files, relay_files}
 use Rattle.taos_node.proofs.Statuses.{apart, file_ends, is_file_status, lacked, of_command, stayed, two_commands}

@@ -3,7 +3,7 @@ use Rattle.std.proofs.Common.{◌≡◌, List, true, false, refl, inl, inr}
 use Rattle.std.specs.Prelude.{String}
 use Rattle.std.specs.declared.alloc.Global.{Global}
 use Rattle.node_file.specs.Opening.{Opening}
-use Rattle.node_words.specs.Words.{Mean, Replay}
+use Rattle.node_commands.specs.Words.{Mean, Replay}
 use Rattle.taos_node.specs.Calls.{Touched}
 use Rattle.taos_node.specs.Status.{IsStatus, ReplaysWell}
 use Rattle.node_commands.specs.Files.{IsNodeFile, OpensNode, node_means}

@@ -17,8 +17,8 @@ use Rattle.node_commands.specs.declared.fault.FileFault.{FileFault}
 use Rattle.node_commands.specs.declared.fault.FileFault.TheVariants as fault
 use Rattle.node_commands.specs.declared.fault.FileFault.TheVariants.{Malformed, Refused}
 use Rattle.node_commands.specs.declared.finding.Finding.TheVariants.{Granted, Refused as Wrong}
-use Rattle.node_words.specs.Words.{IsMeaning, Mean, MintWords, RunWords, Task, Run, Check, Relay, Mint, Serve, RelayServe, Audit, Drill, Path, Wallet, task_of, AuditBytes, Replay}
-use Rattle.node_words.specs.declared.wanted.Wanted.{Wanted}
+use Rattle.node_commands.specs.Words.{IsMeaning, Mean, MintWords, RunWords, Task, Run, Check, Relay, Mint, Serve, RelayServe, Audit, Drill, Path, Wallet, task_of, AuditBytes, Replay}
+use Rattle.node_commands.specs.declared.words.wanted.Wanted.{Wanted}
 use Rattle.cred_pull.specs.WalletFile.{WalletRow}
 use Rattle.node_commands.specs.Files.{FaultHasCause, FileFails, IsNodeFile, IsPathFile, IsRelayFile, IsSteady, IsWalletFile, Meaning, OpensNode, OpensRelay, OpensWallet, node_means, path_means, relay_means, wallet_means}
 use Rattle.taos_node.specs.Deciding.{FileDecides}
@@ -32,7 +32,7 @@ use Rattle.node_commands.specs.Minting.{MintCauses}
 use Rattle.node_commands.specs.declared.minting.MintEnd.{MintEnd}
 use Rattle.node_commands.specs.declared.minting.MintEnd.TheVariants as made
 use Rattle.std.specs.Prelude.{Option, Some, None, map, string_bytes}
-use Rattle.node_words.proofs.Meanings.{one_meaning}
+use Rattle.node_commands.proofs.Meanings.{one_meaning}
 use Rattle.taos_node.proofs.Commands.{decided_opened, decided_fault, not_refused, still}
 use Rattle.node_commands.proofs.Meant.{IsMeantBy, node_files, path_files, relay_files, wallet_files}
 use Rattle.taos_node.proofs.Stopped.{checked_status, file_status, minted_status, served_status}

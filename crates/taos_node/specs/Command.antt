@@ -12,7 +12,7 @@ use Rattle.taos_node.specs.declared.ending.Ending.TheVariants as ending
 use Rattle.taos_node.specs.declared.ending.Ending.TheVariants.{Usage, File, Served, Checked, Relayed, Minted, Lanes, RelayLanes, Audited, Drilled, Passed, Walleted, Replayed}
 use Rattle.node_commands.specs.Files.{OpensNode, OpensPath, OpensRelay, OpensWallet, FileFails, node_means, path_means, relay_means, wallet_means}
 use Rattle.taos_node.specs.Calls.{Call, LaneUsed, Touched, with_file}
-use Rattle.node_words.specs.Words.{Mean, MintWords, DrillWords, PathWords, RunWords, ServeWords, Task, Run, Check, Relay, Mint, Serve, RelayServe, Audit, Drill, Path, Wallet, AuditBytes, Replay}
+use Rattle.node_commands.specs.Words.{Mean, MintWords, DrillWords, PathWords, RunWords, ServeWords, Task, Run, Check, Relay, Mint, Serve, RelayServe, Audit, Drill, Path, Wallet, AuditBytes, Replay}
 use Rattle.node_commands.specs.declared.check.CheckEnd.{CheckEnd}
 use Rattle.taos_node.specs.Stops.{status_of}
 use Rattle.taos_node.specs.Notes.{note_of, IsNoted}

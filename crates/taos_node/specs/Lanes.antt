@@ -5,7 +5,7 @@ use Rattle.std.specs.List.{AllZip}
 use Rattle.frame_link.specs.Faults.{Rose}
 use Rattle.frame_link.specs.Streams.{Stream}
 use Rattle.node_file.specs.Opening.{Opening}
-use Rattle.node_words.specs.Words.{ServeWords, serve_words}
+use Rattle.node_commands.specs.Words.{ServeWords, serve_words}
 use Rattle.frame_link.specs.declared.limits.Limits.{Limits}
 use Rattle.taos_lanes.specs.declared.parts.NodeParts.{NodeParts}
 use Rattle.taos_lanes.specs.declared.total.Total.{Total}

@@ -8,7 +8,7 @@ use Rattle.taos_node.specs.declared.ending.Ending.{Ending}
 use Rattle.node_commands.specs.Files.{IsNodeFile, IsPathFile, IsRelayFile, IsWalletFile, HasFailed, IsSteady}
 use Rattle.taos_node.specs.Deciding.{FileDecides}
 use Rattle.taos_node.specs.Calls.{Call, LaneUsed, Touched, DoorsTouched, with_input}
-use Rattle.node_words.specs.Words.{Mean, Task, Run, Check, Relay, Mint, Serve, RelayServe, Audit, Drill, Path, Wallet, AuditBytes, Replay}
+use Rattle.node_commands.specs.Words.{Mean, Task, Run, Check, Relay, Mint, Serve, RelayServe, Audit, Drill, Path, Wallet, AuditBytes, Replay}
 use Rattle.taos_node.specs.Stops.{status_of}
 use Rattle.taos_lanes.specs.Workers.{LaneShown}
 use Rattle.taos_lanes.specs.Telling.{Telling}

@@ -15,7 +15,7 @@ ghost use Rattle.taos_node.specs.Command.{Ends, LeavesBy, LeavesLanes, ServesDoo
 ghost use Rattle.taos_node.specs.Status.{Does, EndsWithoutLanes, TellsDoors, TellsStatus};
 ghost use Rattle.node_commands.specs.Files.{FileHasCause, NodeFileGives};
 ghost use Rattle.taos_lanes.specs.Opened.{IsOpenedBy, IsSameNode, IsSmall};
-ghost use Rattle.node_words.specs.Words.{Check};
+ghost use Rattle.node_commands.specs.Words.{Check};
 
 use crate::audit::{AuditAsked, audit_by_file};
 use crate::drill::drill_asked;
@@ -33,7 +33,7 @@ use goal_search::Workbench;
 use lemma_memo::Lemmas;
 use node_commands::{FileFault, check_connection, file_opening};
 use node_journals::Form;
-use node_words::{Wanted, wanted_of};
+use node_commands::{Wanted, wanted_of};
 use relay_core::OpenedCerts;
 use std::alloc::Global;
 use std::sync::Wait;

@@ -1,7 +1,7 @@
 //! The command that serves a load that is made.
 
-ghost use Rattle.node_words.specs.Words as task;
-ghost use Rattle.node_words.specs.Words.{drill_words};
+ghost use Rattle.node_commands.specs.Words as task;
+ghost use Rattle.node_commands.specs.Words.{drill_words};
 ghost use Rattle.taos_node.specs.Calls.{touched};
 ghost use Rattle.taos_node.specs.Status.{EndsWithoutLanes};
 ghost use Rattle.frame_link.specs.Streams.{Stream};
@@ -10,7 +10,7 @@ ghost use Rattle.std.specs.declared.alloc.Global.{Global};
 use crate::ending::Ending;
 use drill_run::drill;
 use frame_link::Sink;
-use node_words::Drill;
+use node_commands::Drill;
 use std::alloc::Global;
 use std::sync::Wait;
 use std::thread::Threads;

@@ -11,7 +11,7 @@ ghost use Rattle.taos_node.specs.Calls.{doors_by};
 ghost use Rattle.taos_node.specs.Status.{DoesDoors};
 ghost use Rattle.node_commands.specs.Files.{FileHasCause, NodeFileGives};
 ghost use Rattle.taos_node.specs.Lanes.{LanesCauses, Prints, PrintsLine, ServesParts, lanes_words};
-ghost use Rattle.node_words.specs.Words.{Serve};
+ghost use Rattle.node_commands.specs.Words.{Serve};
 ghost use Rattle.taos_lanes.specs.Opened.{IsNodeOf};
 
 use crate::ending::{Ending, LanesEnd};

@@ -21,7 +21,7 @@ pub use ending::{Ending, LanesEnd, status_of};
 pub use frame_link::Outcome;
 pub use node_commands::{FileFault, MintEnd, MintWord, PathEnd, file_opening, file_wallet};
 pub use node_journals::{AuditEnd, MAX_JOURNALS, ReplayEnd};
-pub use node_words::{Wanted, wanted_of};
+pub use node_commands::{Wanted, wanted_of};
 pub use note::tell;
 pub use stop::{Stop, stop_of, stop_status};
 pub use taos_lanes::Lane;

@@ -1,15 +1,15 @@
 //! The command that passes a certificate along a route of domains.
 
 ghost use Rattle.std.specs.declared.alloc.Global.{Global};
-ghost use Rattle.node_words.specs.Words as task;
-ghost use Rattle.node_words.specs.Words.{path_words};
+ghost use Rattle.node_commands.specs.Words as task;
+ghost use Rattle.node_commands.specs.Words.{path_words};
 ghost use Rattle.taos_node.specs.Calls.{touched};
 ghost use Rattle.taos_node.specs.Status.{EndsWithoutLanes};
 
 use crate::ending::Ending;
 use frame_link::{Sink, Source};
 use node_commands::{file_domains, pass};
-use node_words::Path;
+use node_commands::Path;
 use std::alloc::Global;
 
 /// Passes the certificate of the input along the route, by the domains of a file.

@@ -4,12 +4,12 @@ ghost use Rattle.std.specs.declared.alloc.Global.{Global};
 ghost use Rattle.frame_link.specs.Streams.{Stream};
 ghost use Rattle.taos_node.specs.Calls.{touched};
 ghost use Rattle.taos_node.specs.Status.{EndsWithoutLanes};
-ghost use Rattle.node_words.specs.Words.{Mint, Relay, mint_words};
+ghost use Rattle.node_commands.specs.Words.{Mint, Relay, mint_words};
 
 use crate::ending::Ending;
 use frame_link::{Sink, Source};
 use node_commands::{file_relay, mint};
-use node_words::Mint as MintAsked;
+use node_commands::Mint as MintAsked;
 use relay_core::serve_relay;
 use std::alloc::Global;
 

@@ -8,7 +8,7 @@ ghost use Rattle.taos_lanes.specs.declared.serving.TheConstants.{MAX_LANES};
 ghost use Rattle.taos_node.specs.Calls.{doors_by};
 ghost use Rattle.taos_node.specs.Status.{DoesDoors};
 ghost use Rattle.taos_node.specs.Lanes.{LanesCauses};
-ghost use Rattle.node_words.specs.Words.{RelayServe};
+ghost use Rattle.node_commands.specs.Words.{RelayServe};
 ghost use Rattle.taos_node.specs.RelayLanes.{RelaysFile};
 
 use crate::ending::{Ending, LanesEnd};

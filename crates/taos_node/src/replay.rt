@@ -1,7 +1,7 @@
 //! The command that judges journals as bytes.
 
 ghost use Rattle.std.specs.declared.alloc.Global.{Global};
-ghost use Rattle.node_words.specs.Words as task;
+ghost use Rattle.node_commands.specs.Words as task;
 ghost use Rattle.taos_node.specs.Calls.{touched};
 ghost use Rattle.taos_node.specs.Status.{EndsWithoutLanes};
 

@@ -3,7 +3,7 @@
 ghost use Rattle.std.specs.declared.alloc.Global.{Global};
 ghost use Rattle.taos_node.specs.Calls.{touched};
 ghost use Rattle.taos_node.specs.Status.{EndsWithoutLanes};
-ghost use Rattle.node_words.specs.Words.{Wallet};
+ghost use Rattle.node_commands.specs.Words.{Wallet};
 
 use crate::ending::Ending;
 use cred_pull::serve_wallet;

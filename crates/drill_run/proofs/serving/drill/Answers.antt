@@ -2,7 +2,7 @@
 use Rattle.std.proofs.Common.{sym, subst, ◌∙◌}
 use Rattle.std.specs.Io.KnownBytes.{Appends}
 use Rattle.taos_lanes.specs.Serving.{left_by}
-use Rattle.node_words.specs.Words.{drill_words}
+use Rattle.node_commands.specs.Words.{drill_words}
 use Rattle.drill_run.proofs.DrillRuns.{came}
 use Rattle.drill_run.proofs.serving.drill.Goals as goal
 

@@ -4,7 +4,7 @@ use Rattle.std.specs.Prelude.{option_map}
 use Rattle.std.proofs.lemmas.Result.{err_from_is_err_and}
 use Rattle.prin_term.specs.View.{principal}
 use Rattle.stmt_codec.specs.Certificates.{beginning}
-use Rattle.node_words.specs.Words.{mint_words}
+use Rattle.node_commands.specs.Words.{mint_words}
 use Rattle.node_commands.specs.Minting.{AsksFor}
 use Rattle.node_commands.proofs.Minted.{left_stops, quoted_stops, right_stops}
 use Rattle.node_commands.proofs.minting.body_of.Goals as goal

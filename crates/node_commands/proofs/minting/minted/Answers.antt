@@ -1,7 +1,7 @@
 -- what the sealing refuses is the last that is looked at
 use Rattle.std.proofs.Common.{sym}
 use Rattle.stmt_codec.specs.Certificates.{certificate}
-use Rattle.node_words.specs.Words.{mint_words}
+use Rattle.node_commands.specs.Words.{mint_words}
 use Rattle.node_commands.proofs.Minted.{sealed_stops}
 use Rattle.node_commands.proofs.minting.minted.Goals as goal
 

@@ -2,7 +2,7 @@
 use Rattle.std.proofs.Common.{map}
 use Rattle.relay_path.specs.Domains.{knows}
 use Rattle.relay_path.specs.declared.answer.Along.TheVariants.{Done, Refused}
-use Rattle.node_words.specs.Words.{path_words}
+use Rattle.node_commands.specs.Words.{path_words}
 use Rattle.node_commands.proofs.Paths.{from_nothing}
 use Rattle.node_commands.proofs.path.lines_along.Goals as goal
 

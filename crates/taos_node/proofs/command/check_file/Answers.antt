@@ -2,7 +2,7 @@ use Rattle.std.proofs.Common.{refl}
 use Rattle.taos_node.specs.Calls.{touched}
 use Rattle.taos_node.specs.Command.{UsesNoLane}
 use Rattle.taos_node.proofs.CheckCommands.{looked_over}
-use Rattle.node_words.specs.Words.{Check}
+use Rattle.node_commands.specs.Words.{Check}
 use Rattle.taos_node.proofs.Statuses.{checked, refuses}
 use Rattle.taos_node.proofs.command.check_file.Goals as goal
 

@@ -3,7 +3,7 @@ use Rattle.std.proofs.Common.{inl, inr, map, refl}
 use Rattle.std.proofs.KnownBytes.{Keeps-refl}
 use Rattle.taos_lanes.specs.Telling.{told_by}
 use Rattle.taos_node.specs.declared.ending.Ending.TheVariants.{Usage, Served}
-use Rattle.node_words.specs.Words.{Audit, Check, Drill, Mint, Path, Relay, Run, Wallet, drill_words, mint_words, path_words, run_words, serve_words, AuditBytes, Replay}
+use Rattle.node_commands.specs.Words.{Audit, Check, Drill, Mint, Path, Relay, Run, Wallet, drill_words, mint_words, path_words, run_words, serve_words, AuditBytes, Replay}
 use Rattle.taos_node.specs.Calls.{touched, first_of}
 use Rattle.taos_node.proofs.Statuses.{meant, none_meant, refuses, rests, served, unread, unused}
 use Rattle.taos_node.proofs.LaneStatuses.{alone, ends_alone, none_serves, shown_others, unread_does}

@@ -2,7 +2,7 @@
 use Rattle.std.proofs.Common.{refl, arith}
 use Rattle.std.proofs.KnownBytes.{Keeps-refl}
 use Rattle.taos_node.specs.Calls.{touched}
-use Rattle.node_words.specs.Words.{drill_words}
+use Rattle.node_commands.specs.Words.{drill_words}
 use Rattle.taos_node.proofs.Endings.{drilled}
 use Rattle.taos_node.proofs.drill.drill_asked.Goals as goal
 

@@ -3,7 +3,7 @@ use Rattle.std.proofs.Common.{inl, map, refl}
 use Rattle.std.proofs.KnownBytes.{Keeps-refl}
 use Rattle.taos_lanes.specs.Telling.{told_by}
 use Rattle.taos_node.specs.Calls.{touched, first_of}
-use Rattle.node_words.specs.Words.{Serve, serve_words}
+use Rattle.node_commands.specs.Words.{Serve, serve_words}
 use Rattle.taos_node.proofs.LaneStatuses.{doors_tell, file_does, lanes_tell}
 use Rattle.taos_node.proofs.Commands.{decided_opened}
 use Rattle.node_commands.proofs.Meant.{node_files}

@@ -4,7 +4,7 @@ use Rattle.relay_path.specs.Domains.{LinksAgree, knows}
 use Rattle.taos_node.specs.Calls.{touched}
 use Rattle.taos_node.specs.Command.{UsesNoLane}
 use Rattle.node_commands.specs.Paths.{Passes}
-use Rattle.node_words.specs.Words.{Path, path_words}
+use Rattle.node_commands.specs.Words.{Path, path_words}
 use Rattle.taos_node.proofs.Endings.{passed}
 use Rattle.node_commands.proofs.Standing.{stand_passes}
 use Rattle.taos_node.proofs.Statuses.{refuses}

@@ -2,7 +2,7 @@ use Rattle.std.proofs.Common.{refl}
 use Rattle.std.proofs.KnownBytes.{Keeps-refl}
 use Rattle.taos_node.specs.Calls.{touched}
 use Rattle.taos_node.specs.Command.{UsesNoLane, labels_of}
-use Rattle.node_words.specs.Words.{Mint, mint_words}
+use Rattle.node_commands.specs.Words.{Mint, mint_words}
 use Rattle.node_commands.proofs.Minted.{same_mints}
 use Rattle.taos_node.proofs.Statuses.{minted, refuses}
 use Rattle.taos_node.proofs.relay.mint_by_file.Goals as goal

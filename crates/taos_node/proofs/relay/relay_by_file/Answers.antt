@@ -1,7 +1,7 @@
 use Rattle.std.proofs.Common.{refl}
 use Rattle.taos_node.specs.Calls.{touched}
 use Rattle.taos_node.specs.Command.{UsesNoLane}
-use Rattle.node_words.specs.Words.{Relay}
+use Rattle.node_commands.specs.Words.{Relay}
 use Rattle.taos_node.proofs.Statuses.{refuses, relayed}
 use Rattle.taos_node.proofs.relay.relay_by_file.Goals as goal
 

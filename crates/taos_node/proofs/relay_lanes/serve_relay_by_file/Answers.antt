@@ -3,7 +3,7 @@ use Rattle.std.proofs.Common.{inr, map, refl}
 use Rattle.std.proofs.KnownBytes.{Keeps-refl}
 use Rattle.taos_lanes.specs.Telling.{told_by}
 use Rattle.taos_node.specs.Calls.{touched, first_of}
-use Rattle.node_words.specs.Words.{RelayServe}
+use Rattle.node_commands.specs.Words.{RelayServe}
 use Rattle.taos_node.proofs.LaneStatuses.{relay_doors_tell, relay_file_does, lanes_tell}
 use Rattle.taos_node.proofs.Commands.{decided_opened}
 use Rattle.node_commands.proofs.Meant.{relay_files}

@@ -2,7 +2,7 @@
 use Rattle.std.proofs.Common.{refl}
 use Rattle.taos_node.specs.Calls.{touched}
 use Rattle.taos_node.specs.Command.{UsesNoLane}
-use Rattle.node_words.specs.Words.{Replay}
+use Rattle.node_commands.specs.Words.{Replay}
 use Rattle.taos_node.proofs.Replayed.{replayed}
 use Rattle.taos_node.proofs.Statuses.{refuses}
 use Rattle.taos_node.proofs.replay.replay_by_file.Goals as goal

@@ -4,7 +4,7 @@ use Rattle.cred_pull.specs.WalletFile.{WalletRow}
 use Rattle.cred_pull.specs.WalletServing.{Answers, GivesUp}
 use Rattle.taos_node.specs.Calls.{touched}
 use Rattle.taos_node.specs.Command.{UsesNoLane}
-use Rattle.node_words.specs.Words.{Wallet}
+use Rattle.node_commands.specs.Words.{Wallet}
 use Rattle.taos_node.proofs.Statuses.{refuses, walleted}
 use Rattle.taos_node.proofs.wallet.wallet_by_file.Goals as goal
 

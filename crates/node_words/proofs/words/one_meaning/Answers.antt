@@ -1,6 +1,0 @@
-use Rattle.std.specs.Prelude.{map, string_bytes}
-use Rattle.node_words.proofs.Meanings as law
-use Rattle.node_words.proofs.words.one_meaning.Goals as goal
-
-pub returns : goal.returns
-returns c = λ words a b x y. law.one_meaning (map string_bytes words) a b x y
