@@ -4,7 +4,7 @@ use crate::doors::Switch;
 use crate::own::Own;
 use crate::setting::{Setting, serves_doors};
 use crate::telling::{Told, served_of};
-use node_status::{Addresses, Bounds, Ended, Started, ended_line, started_line};
+use node_telling::{Addresses, Bounds, Ended, Started, ended_line, started_line};
 use node_telling::{Form, Listener, seconds_of};
 use node_commands::Wanted;
 use std::alloc::{AllocError, Global};

@@ -6,7 +6,7 @@ use crate::setting::Setting;
 use crate::usage::VERSION_NUMBER;
 use node_commands::file_opening;
 use node_file::Opening;
-use node_status::Served;
+use node_telling::Served;
 use node_telling::{
     Counted, Counting, Form, Journals, Listener, NoticeQueue, Rounds, Scribe, StatusDoor, Stop,
     Tally, Teller, Tells, notices_of, teller_of,

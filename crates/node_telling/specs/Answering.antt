@@ -6,8 +6,8 @@ use Rattle.http1.specs.Fields.{Header}
 use Rattle.http_server.specs.Response.{IsResponse}
 use Rattle.http_server.specs.declared.response.Response.{Response}
 use Rattle.http_uri.specs.Uri.{uri_path}
-use Rattle.node_status.specs.Page.{page}
-use Rattle.node_status.specs.declared.status.Status.{Status}
+use Rattle.node_telling.specs.Page.{page}
+use Rattle.node_telling.specs.declared.texts.status.Status.{Status}
 
 -- the request asks to read, by GET or by HEAD, whose body the server leaves out
 abbrev pub Reads : Request (List ℕ) → Type 0

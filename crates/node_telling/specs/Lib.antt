@@ -1,1 +1,11 @@
+pub mod Asked
+pub mod Decisions
+pub mod Members
+pub mod Words
+pub mod NoticeLines
+pub mod Samples
+pub mod Page
+pub mod Replies
+pub mod Starts
+pub mod Times
 pub mod Answering

@@ -4,7 +4,8 @@
 use crate::log_file::LogFile;
 use crate::seconds::seconds_of;
 use crate::stop::{Shutter, Stop};
-use node_status::{Decision, ReplyFront, decision_line, is_entry};
+use crate::texts::decision::{Decision, decision_line};
+use crate::texts::reply::{ReplyFront, is_entry};
 use prin_text::Names;
 use std::alloc::{AllocError, Global};
 use std::net::SocketAddr;

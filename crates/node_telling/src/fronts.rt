@@ -3,7 +3,7 @@
 ghost use Rattle.std.specs.Prelude.{◌<◌, ◌≤◌, length};
 
 use arrayvec::ArrayVec;
-use node_status::FRONT;
+use crate::texts::reply::FRONT;
 use system_hub::Place;
 
 /// The front of the payload that passes, however its frame is cut into pieces.

@@ -1,6 +1,6 @@
 //! How full the journals of shards and objects are, as far as replies tell it.
 
-use node_status::Gauge;
+use crate::texts::journal::Gauge;
 use std::alloc::{AllocError, Global};
 use std::sync::atomic::{AtomicBool, AtomicU64, Ordering};
 

@@ -1,7 +1,7 @@
 //! A notice as it waits for who writes it. What it tells of a request is bytes, which go to another
 //! thread as they are: a principal is made of others.
 
-use node_status::{Happening, Notice};
+use crate::texts::notice::{Happening, Notice};
 use std::alloc::Global;
 use std::net::SocketAddr;
 use taos_wire::{Request, read_request};

@@ -3,13 +3,14 @@
 ghost use Rattle.std.specs.Prelude.{◌≡◌, ◌↔◌, ◌∷◌, [], IsTrue, OnOk, codes};
 ghost use Rattle.http_header.specs.FieldValue.{is_visible_text};
 ghost use Rattle.http_server.specs.Response.{IsResponse};
-ghost use Rattle.node_status.specs.Page.{page};
+ghost use Rattle.node_telling.specs.Page.{page};
 ghost use Rattle.node_telling.specs.Answering.{Answers, Reads, closing, typed};
 
 use bytes::{BufMut, Bytes};
 use http::{HeaderName, HeaderValue, Request, StatusCode};
 use http_server::{Response, Service};
-use node_status::{Status, push_page};
+use crate::texts::status::Status;
+use crate::texts::page::push_page;
 use std::alloc::{AllocError, Global};
 
 const PAGE_TYPE: &str = "text/plain; version=0.0.4; charset=utf-8";

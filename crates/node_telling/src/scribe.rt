@@ -4,7 +4,8 @@ ghost use Rattle.std.specs.Prelude.{◌≡◌, ◌≤◌};
 
 use crate::notices::{NoticeQueue, WAITING};
 use crate::seconds::seconds_of;
-use node_status::{LeftOut, Notice, left_out_line, notice_line};
+use crate::texts::notice::{LeftOut, Notice};
+use crate::texts::notices::{left_out_line, notice_line};
 use prin_text::Names;
 use std::alloc::Global;
 use std::io::{BufWriter, ErrorKind, Write};

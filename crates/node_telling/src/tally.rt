@@ -1,9 +1,9 @@
 //! What lanes count as they serve. No lane waits for anything.
 
 use crate::journals::Journals;
-use node_status::{
-    ANSWERS, BUCKETS, CAUSES, Happening, STATUSES, Status, answer_place, cause_place, place_of,
-};
+use crate::texts::status::{ANSWERS, BUCKETS, CAUSES, STATUSES, Status, answer_place, cause_place};
+use crate::texts::notice::Happening;
+use crate::texts::timing::place_of;
 use std::alloc::{AllocError, Global};
 use std::sync::Arc;
 use std::sync::atomic::{AtomicU64, Ordering};

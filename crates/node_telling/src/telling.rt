@@ -7,7 +7,7 @@ use crate::decisions::{Decisions, Ruling};
 use crate::fronts::Fronts;
 use crate::notices::{Notices, Teller, teller_of};
 use crate::rounds::Rounds;
-use node_status::{is_entry, reply_at, shows_seal};
+use crate::texts::reply::{is_entry, reply_at, shows_seal};
 use std::alloc::Global;
 use std::io;
 use std::io::{ErrorKind, Write};

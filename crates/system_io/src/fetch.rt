@@ -11,7 +11,7 @@ use crate::wallet_exchange::exchange;
 use crate::wire::Wire;
 use cred_pull::{Fetch, FetchRoom, Fetched};
 use frame_link::Failed;
-use node_status::Happening;
+use node_telling::Happening;
 use node_telling::{Teller, Term};
 use std::alloc::Global;
 use std::net::{Net, TcpListener, TcpStream};

@@ -10,7 +10,7 @@ use crate::talk::Silence;
 use crate::wire::Wire;
 use arrayvec::ArrayVec;
 use frame_link::{Failed, RelayAnswer, RelayLink};
-use node_status::Happening;
+use node_telling::Happening;
 use node_telling::{Rounds, Teller, Term};
 use relay_core::LinkRoom;
 use std::alloc::Global;

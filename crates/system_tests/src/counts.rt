@@ -1,4 +1,4 @@
-use node_status::push_page;
+use node_telling::push_page;
 use node_telling::{Happening, Journals, Tally, status_of};
 use std::sync::Arc;
 use std::test::*;

@@ -1,4 +1,4 @@
-use node_status::reply_at;
+use node_telling::reply_at;
 use node_telling::{
     Breakage, Form, Happening, LINES, LeftOut, Notice, NoticeQueue, Notices, Scribe, Telling,
     Tells, WAITING, code_of, notices_of,

@@ -1,7 +1,7 @@
 use arrayvec::ArrayVec;
 use cred_pull::Fetch;
 use frame_link::{Clock, Door, RelayLink, fill, pour};
-use node_status::push_page;
+use node_telling::push_page;
 use node_telling::{
     Breakage, Counting, Happening, Journals, NoticeQueue, Rounds, Stop, Tally, Tells, notices_of,
     status_of, teller_of,

@@ -1,0 +1,35 @@
+-- the parts stand one after another
+use Rattle.std.proofs.Common.{◌++◌, string_bytes}
+use Rattle.std.specs.Prelude.{codes}
+use Rattle.node_telling.proofs.Appending.{appends_both, appends_or_leaves}
+use Rattle.node_telling.proofs.texts.samples.push_heading.Goals as goal
+
+pub returns : goal.returns
+returns c =
+    let at_0 = string_bytes c.args.out.now in
+    let at_1 = string_bytes c.push_str.new.self in
+    let at_2 = string_bytes c.push_str-2.new.self in
+    let at_3 = string_bytes c.push_str-3.new.self in
+    let at_4 = string_bytes c.push_str-4.new.self in
+    let at_5 = string_bytes c.push_str-5.new.self in
+    let at_6 = string_bytes c.push_str-6.new.self in
+    let at_7 = string_bytes c.push_str-7.new.self in
+    let at_8 = string_bytes c.push_str-8.new.self in
+    let at_9 = string_bytes c.push_str-9.new.self in
+    let part_1 = codes "# HELP " in
+    let part_2 = c.args.family.name.now in
+    let part_3 = codes " " in
+    let part_4 = c.args.family.help.now in
+    let part_5 = codes "\n# TYPE " in
+    let part_6 = c.args.family.name.now in
+    let part_7 = codes " " in
+    let part_8 = c.args.family.kind.now in
+    let part_9 = codes "\n" in
+    let by_2 = appends_both at_0 at_1 at_2 part_1 part_2 c.in_ok-push_str.ensures.bytes c.in_ok-push_str-2.ensures.bytes in
+    let by_3 = appends_both at_0 at_2 at_3 (part_1 ++ part_2) part_3 by_2 c.in_ok-push_str-3.ensures.bytes in
+    let by_4 = appends_both at_0 at_3 at_4 (part_1 ++ part_2 ++ part_3) part_4 by_3 c.in_ok-push_str-4.ensures.bytes in
+    let by_5 = appends_both at_0 at_4 at_5 (part_1 ++ part_2 ++ part_3 ++ part_4) part_5 by_4 c.in_ok-push_str-5.ensures.bytes in
+    let by_6 = appends_both at_0 at_5 at_6 (part_1 ++ part_2 ++ part_3 ++ part_4 ++ part_5) part_6 by_5 c.in_ok-push_str-6.ensures.bytes in
+    let by_7 = appends_both at_0 at_6 at_7 (part_1 ++ part_2 ++ part_3 ++ part_4 ++ part_5 ++ part_6) part_7 by_6 c.in_ok-push_str-7.ensures.bytes in
+    let by_8 = appends_both at_0 at_7 at_8 (part_1 ++ part_2 ++ part_3 ++ part_4 ++ part_5 ++ part_6 ++ part_7) part_8 by_7 c.in_ok-push_str-8.ensures.bytes in
+    appends_or_leaves at_0 at_8 at_9 (part_1 ++ part_2 ++ part_3 ++ part_4 ++ part_5 ++ part_6 ++ part_7 ++ part_8) part_9 c.push_str-9.result by_8 c.push_str-9.ensures.bytes
