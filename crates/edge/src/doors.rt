@@ -4,7 +4,7 @@ ghost use Rattle.std.specs.Prelude.{◌≡◌, ◌<◌, ◌≤◌, length, vec_l
 
 use crate::own::Own;
 use crate::setting::Setting;
-use frame_hub::{MAX_CLIENTS, MAX_LANES};
+use system_hub::{MAX_CLIENTS, MAX_LANES};
 use node_telling::shows_seal;
 use node_telling::{Breakage, Happening, Listener, Shutter, Teller, teller_of};
 use std::alloc::{AllocError, Global};

@@ -1,6 +1,6 @@
 //! The program's own options, before its first three words.
 
-use frame_hub::MAX_CLIENTS;
+use system_hub::MAX_CLIENTS;
 use node_telling::{Form, Tells};
 use std::time::Duration;
 

@@ -4,17 +4,17 @@ use Rattle.std.specs.List.{slice_get}
 use Rattle.std.proofs.lemmas.Bool.Decides.{eqb_tells}
 use Rattle.std.proofs.Math.Logic.{∥∥₁_elim, ∥∥₁_map}
 use Rattle.std.proofs.lemmas.List.{length-replicate}
-use Rattle.frame_hub.specs.Events.{Event}
-use Rattle.frame_hub.specs.Kept.{Kept, IsHere, IsWellStanding, HasSeat}
-use Rattle.frame_hub.specs.Calls.{Follows, Opens, IsWell, IsHeard}
-use Rattle.frame_hub.specs.Seating.{AreSettled, IsEmpty, HasLeft, LeavesOthers, LeavesAll, Seats}
-use Rattle.frame_hub.specs.declared.seat.Seat.{Seat}
-use Rattle.frame_hub.specs.declared.seat.Standing.TheVariants.{Open}
-use Rattle.frame_hub.proofs.Calling.{open_taken, read_at}
-use Rattle.frame_hub.proofs.Seats.{well_taken}
-use Rattle.frame_hub.proofs.Members.{some_is, get_set_cases, get_set_same, get_set_other}
-use Rattle.frame_hub.proofs.Waiting.{has_place}
-use Rattle.frame_hub.proofs.Filing.{here_at}
+use Rattle.system_hub.specs.Events.{Event}
+use Rattle.system_hub.specs.Kept.{Kept, IsHere, IsWellStanding, HasSeat}
+use Rattle.system_hub.specs.Calls.{Follows, Opens, IsWell, IsHeard}
+use Rattle.system_hub.specs.Seating.{AreSettled, IsEmpty, HasLeft, LeavesOthers, LeavesAll, Seats}
+use Rattle.system_hub.specs.declared.machine.seat.Seat.{Seat}
+use Rattle.system_hub.specs.declared.machine.seat.Standing.TheVariants.{Open}
+use Rattle.system_hub.proofs.Calling.{open_taken, read_at}
+use Rattle.system_hub.proofs.Seats.{well_taken}
+use Rattle.system_hub.proofs.Members.{some_is, get_set_cases, get_set_same, get_set_other}
+use Rattle.system_hub.proofs.Waiting.{has_place}
+use Rattle.system_hub.proofs.Filing.{here_at}
 use Rattle.system_hub.specs.Floors.{HasHistory, HasNoSocket, HasSocket, IsFloor, IsDoneWith}
 use Rattle.system_hub.proofs.Staying.{history_goes_on, none_so_far}
 use Rattle.system_hub.specs.declared.client.Client.{Client}

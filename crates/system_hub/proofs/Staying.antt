@@ -1,10 +1,10 @@
 -- What becomes of a hub by what is done with one client.
 use Rattle.std.proofs.Common.{◌≡◌, ◌↔◌, ◌++◌, ◌∙◌, Bool, true, false, IsTrue, if◌then◌else◌, List, [], ◌∷◌, ℕ, length, refl, sym, subst}
-use Rattle.frame_hub.specs.Events.{Event}
-use Rattle.frame_hub.specs.Kept.{Kept, IsHere}
-use Rattle.frame_hub.specs.Calls.{Follows}
-use Rattle.frame_hub.specs.Seating.{HasLeft, LeavesOthers, LeavesAll, Keeps}
-use Rattle.frame_hub.proofs.Seating.{others_then, others_none}
+use Rattle.system_hub.specs.Events.{Event}
+use Rattle.system_hub.specs.Kept.{Kept, IsHere}
+use Rattle.system_hub.specs.Calls.{Follows}
+use Rattle.system_hub.specs.Seating.{HasLeft, LeavesOthers, LeavesAll, Keeps}
+use Rattle.system_hub.proofs.Seating.{others_then, others_none}
 use Rattle.system_hub.specs.Floors.{HasHistory, IsDoneSoFar, IsDoneWith, IsMoved}
 use Rattle.system_hub.specs.declared.client.Moved.{Moved}
 use Rattle.system_hub.specs.declared.client.Moved.TheVariants.{More, Enough, Left}

@@ -1,9 +1,9 @@
 -- Whose sockets there are: those of who sits.
 use Rattle.std.specs.Prelude.{◌≡◌, ◌↔◌, ◌%◌, Bool, true, false, ℕ, List, length, Option, None, Some, MatchOption}
 use Rattle.std.specs.List.{slice_get}
-use Rattle.frame_hub.specs.Events.{Event}
-use Rattle.frame_hub.specs.Kept.{Kept, IsHere, IsKeptOf}
-use Rattle.frame_hub.specs.Seating.{AreSettled, HasLeft, LeavesOthers}
+use Rattle.system_hub.specs.Events.{Event}
+use Rattle.system_hub.specs.Kept.{Kept, IsHere, IsKeptOf}
+use Rattle.system_hub.specs.Seating.{AreSettled, HasLeft, LeavesOthers}
 use Rattle.system_hub.specs.declared.client.Client.{Client}
 use Rattle.system_hub.specs.declared.client.Moved.{Moved}
 use Rattle.system_hub.specs.declared.client.Moved.TheVariants.{More, Enough, Left}

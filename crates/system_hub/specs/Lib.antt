@@ -1,3 +1,13 @@
+pub mod Events
+pub mod Lanes
+pub mod Accounts
+pub mod Fair
+pub mod Lawful
+pub mod First
+pub mod Queues
+pub mod Kept
+pub mod Calls
+pub mod Seating
 pub mod Causes
 pub mod Sockets
 pub mod Floors

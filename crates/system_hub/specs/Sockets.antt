@@ -1,7 +1,7 @@
 -- Whose sockets there may be.
 use Rattle.std.specs.Prelude.{◌≡◌, ℕ, ◌+◌, ◌<◌}
 use Rattle.mio.specs.declared.token.Token.{Token}
-use Rattle.frame_hub.specs.declared.limits.TheConstants.{MAX_CLIENTS, MAX_LANES}
+use Rattle.system_hub.specs.declared.machine.limits.TheConstants.{MAX_CLIENTS, MAX_LANES}
 use Rattle.system_hub.specs.declared.tokens.Socket.{Socket}
 use Rattle.system_hub.specs.declared.tokens.Socket.TheVariants.{Client, Lane, Listener}
 

@@ -2,14 +2,15 @@
 
 ghost use Rattle.std.specs.Prelude.{◌≡◌, ◌≤◌, if◌then◌else◌, true, false, IfSome};
 ghost use Rattle.system_hub.specs.declared.client.Moved.TheVariants.{More, Enough, Left};
-ghost use Rattle.frame_hub.specs.Kept.{IsHere};
+ghost use Rattle.system_hub.specs.Kept.{IsHere};
 ghost use Rattle.system_hub.specs.Floors.{IsDoneWith, IsMoved};
 
 use crate::breakage::Breakage;
 use crate::pace::Pace;
 use crate::parting::Parting;
 use crate::patience::Patience;
-use frame_hub::{Hub, MAX_KEPT};
+use crate::machine::hub::Hub;
+use crate::machine::limits::MAX_KEPT;
 use mio::net::TcpStream;
 use std::io::{ErrorKind, Read, Write};
 use std::net::SocketAddr;

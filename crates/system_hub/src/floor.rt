@@ -1,8 +1,8 @@
 //! Who sits: a hub, and the socket of each client that has a seat there.
 
 ghost use Rattle.std.specs.Prelude.{◌↔◌, ◌≡◌, ◌≤◌, ◌<◌, ◌^◌, ◌%◌, IfOk, IfSome, IsTrue, None, replicate, length, set, vec_capacity};
-ghost use Rattle.frame_hub.specs.Calls.{HasFrame, HasRoom};
-ghost use Rattle.frame_hub.specs.Seating.{AreSettled, IsEmpty};
+ghost use Rattle.system_hub.specs.Calls.{HasFrame, HasRoom};
+ghost use Rattle.system_hub.specs.Seating.{AreSettled, IsEmpty};
 ghost use Rattle.frame_link.specs.declared.service.TheConstants.{MAX_PAYLOAD};
 ghost use Rattle.system_hub.specs.Floors.{HasHistory, HasNoSocket, IsFloor};
 
@@ -10,7 +10,9 @@ use crate::breakage::Breakage;
 use crate::client::Client;
 use crate::patience::Patience;
 use crate::tokens::{Socket, token_of};
-use frame_hub::{Answer, Hub, MAX_CLIENTS};
+use crate::machine::answering::Answer;
+use crate::machine::hub::Hub;
+use crate::machine::limits::MAX_CLIENTS;
 use frame_link::MAX_PAYLOAD;
 use mio::net::TcpStream;
 use mio::{Interest, Registry};

@@ -1,7 +1,7 @@
 //! All clients: those who sit, and those whose streams part.
 
 ghost use Rattle.std.specs.Prelude.{◌≡◌, ◌≤◌, length, vec_capacity};
-ghost use Rattle.frame_hub.specs.Seating.{AreSettled, IsEmpty};
+ghost use Rattle.system_hub.specs.Seating.{AreSettled, IsEmpty};
 ghost use Rattle.system_hub.specs.Floors.{HasHistory};
 ghost use Rattle.frame_link.specs.declared.service.TheConstants.{MAX_PAYLOAD};
 
@@ -11,7 +11,8 @@ use crate::floor::{Floor, Replied};
 use crate::parting::Parting;
 use crate::patience::Patience;
 use crate::watch::Watch;
-use frame_hub::{Hub, MAX_AT_LANE};
+use crate::machine::hub::Hub;
+use crate::machine::limits::MAX_AT_LANE;
 use frame_link::MAX_PAYLOAD;
 use mio::Registry;
 use mio::net::TcpStream;

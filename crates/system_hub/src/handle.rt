@@ -1,7 +1,7 @@
 //! How the switch is begun, and how it ends.
 
 ghost use Rattle.std.specs.Prelude.{◌≡◌, ◌≤◌, ◌<◌, length, vec_len, vec_capacity, IfOk};
-ghost use Rattle.frame_hub.specs.declared.limits.TheConstants.{MAX_CLIENTS, MAX_LANES};
+ghost use Rattle.system_hub.specs.declared.machine.limits.TheConstants.{MAX_CLIENTS, MAX_LANES};
 ghost use Rattle.frame_link.specs.declared.service.TheConstants.{MAX_PAYLOAD};
 
 use crate::accepting::Entrance;
@@ -13,7 +13,8 @@ use crate::port::Port;
 use crate::switch::{Room, Switch};
 use crate::tokens::{Socket, token_of};
 use crate::watch::Watch;
-use frame_hub::{Hub, MAX_CLIENTS, MAX_LANES};
+use crate::machine::hub::Hub;
+use crate::machine::limits::{MAX_CLIENTS, MAX_LANES};
 use frame_link::MAX_PAYLOAD;
 use mio::{Events, Interest, Poll};
 use std::alloc::{AllocError, Global};

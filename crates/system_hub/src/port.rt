@@ -5,7 +5,7 @@ ghost use Rattle.std.specs.Prelude.{◌≡◌, ◌≤◌, ◌<◌, length, IfOk}
 use crate::lane_end::LaneEnd;
 use crate::limits::PIECE;
 use crate::place::Place;
-use frame_hub::Buffer;
+use crate::machine::buffer::Buffer;
 use mio::net::UnixStream;
 use std::alloc::{AllocError, Global};
 use std::io::{ErrorKind, Write};

@@ -9,7 +9,7 @@ use crate::limits::{ABSENCE, GUESTS, LOOK, OUT};
 use crate::port::{Port, Written};
 use crate::tokens::{Socket, socket_of, token_of};
 use crate::watch::Watch;
-use frame_hub::{MAX_AT_LANE, MAX_LANES};
+use crate::machine::limits::{MAX_AT_LANE, MAX_LANES};
 use frame_link::{Failed, MAX_PAYLOAD};
 use mio::event::Event;
 use mio::net::UnixStream;

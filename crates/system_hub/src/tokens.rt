@@ -3,7 +3,7 @@
 ghost use Rattle.std.specs.Prelude.{◌≡◌, ◌<◌};
 ghost use Rattle.system_hub.specs.Sockets.{IsWithin, Names};
 
-use frame_hub::{MAX_CLIENTS, MAX_LANES};
+use crate::machine::limits::{MAX_CLIENTS, MAX_LANES};
 use mio::Token;
 
 /// Whose socket it is.

@@ -1,7 +1,7 @@
 ghost use Rattle.std.specs.Prelude.{◌<◌, ◌≤◌, vec_capacity};
 ghost use Rattle.frame_link.specs.declared.service.TheConstants.{MAX_PAYLOAD};
 
-use frame_hub::{Answer, Hub};
+use system_hub::{Answer, Hub};
 use frame_link::MAX_PAYLOAD;
 use std::test::*;
 

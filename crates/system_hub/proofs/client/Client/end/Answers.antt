@@ -1,6 +1,6 @@
 -- It keeps its seat where something is left.
 use Rattle.std.proofs.Common.{[], ◌∷◌}
-use Rattle.frame_hub.specs.Events.{Ended}
+use Rattle.system_hub.specs.Events.{Ended}
 use Rattle.system_hub.proofs.Staying.{kept_done}
 use Rattle.system_hub.proofs.client.Client.end.Goals as goal
 

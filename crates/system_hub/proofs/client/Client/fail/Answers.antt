@@ -1,6 +1,6 @@
 -- It is let go where it had its seat.
 use Rattle.std.proofs.Common.{[], ◌∷◌}
-use Rattle.frame_hub.specs.Events.{Failed, Closed}
+use Rattle.system_hub.specs.Events.{Failed, Closed}
 use Rattle.system_hub.proofs.Staying.{left_done}
 use Rattle.system_hub.proofs.client.Client.fail.Goals as goal
 

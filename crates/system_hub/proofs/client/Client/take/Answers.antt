@@ -1,6 +1,6 @@
 -- It keeps its seat, or was through, or failed.
 use Rattle.std.proofs.Common.{[], ◌∷◌}
-use Rattle.frame_hub.specs.Events.{Received, Failed, Closed}
+use Rattle.system_hub.specs.Events.{Received, Failed, Closed}
 use Rattle.system_hub.proofs.Staying.{kept_done, left_done}
 use Rattle.system_hub.proofs.client.Client.take.Goals as goal
 

@@ -1,7 +1,7 @@
 -- It keeps its seat where something is left.
 use Rattle.std.proofs.Common.{[], ◌∷◌, take}
-use Rattle.frame_hub.specs.Events.{Wrote}
-use Rattle.frame_hub.specs.Calls.{left_of}
+use Rattle.system_hub.specs.Events.{Wrote}
+use Rattle.system_hub.specs.Calls.{left_of}
 use Rattle.system_hub.proofs.Staying.{kept_done, moved_some}
 use Rattle.system_hub.proofs.client.Client.write_once.Goals as goal
 

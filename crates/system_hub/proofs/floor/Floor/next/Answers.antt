@@ -1,7 +1,7 @@
 -- Nobody comes or goes as a lane is handed a frame.
 use Rattle.std.proofs.Common.{[], ◌∷◌}
-use Rattle.frame_hub.specs.Calls.{NobodyWaits}
-use Rattle.frame_hub.specs.Events.{Took}
+use Rattle.system_hub.specs.Calls.{NobodyWaits}
+use Rattle.system_hub.specs.Events.{Took}
 use Rattle.system_hub.proofs.Flooring.{floor_next}
 use Rattle.system_hub.proofs.floor.Floor.next.Goals as goal
 

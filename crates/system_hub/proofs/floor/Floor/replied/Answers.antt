@@ -1,7 +1,7 @@
 -- Nobody comes or goes by a reply, but who fails by it.
 use Rattle.std.proofs.Common.{ℕ, List, [], ◌∷◌, sym, subst, Option}
-use Rattle.frame_hub.specs.Events.{Replied, Failed, Closed}
-use Rattle.frame_hub.specs.Kept.{Kept}
+use Rattle.system_hub.specs.Events.{Replied, Failed, Closed}
+use Rattle.system_hub.specs.Kept.{Kept}
 use Rattle.system_hub.specs.Floors.{IsFloor}
 use Rattle.system_hub.specs.declared.client.Client.{Client}
 use Rattle.system_hub.proofs.Flooring.{floor_goes_on, floor_vacated, well_sits}

@@ -1,6 +1,6 @@
 -- Who goes has no socket any more.
 use Rattle.std.proofs.Common.{[], ◌∷◌, refl, false}
-use Rattle.frame_hub.specs.Events.{Failed, Closed}
+use Rattle.system_hub.specs.Events.{Failed, Closed}
 use Rattle.system_hub.proofs.Staying.{left_done}
 use Rattle.system_hub.proofs.Flooring.{done_leaves}
 use Rattle.system_hub.proofs.floor.Floor.stop.Goals as goal

@@ -1,7 +1,0 @@
--- The places so far.
-use Rattle.std.proofs.Common.{◌≡◌, ◌≤◌, vec_capacity}
-use Rattle.std.specs.List.{range_with_len}
-use Rattle.frame_hub.proofs.hub.places_of.Given as goal
-
-abbrev pub invariant-loop-place : goal.invariant-loop-place
-invariant-loop-place l = (l.free.items ≡ range_with_len 0 l.place) × (l.fn.clients ≤ vec_capacity l.free)

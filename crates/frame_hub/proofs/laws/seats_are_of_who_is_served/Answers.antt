@@ -1,6 +1,0 @@
--- Who may not leave is in service.
-use Rattle.frame_hub.proofs.Seating.{in_service}
-use Rattle.frame_hub.proofs.laws.seats_are_of_who_is_served.Goals as goal
-
-pub returns : goal.returns
-returns c = in_service

@@ -1,6 +1,0 @@
--- Who has a seat and is not well may leave.
-use Rattle.frame_hub.proofs.Seating.{nobody_sits}
-use Rattle.frame_hub.proofs.laws.seats_are_of_who_is_well.Goals as goal
-
-pub returns : goal.returns
-returns c = nobody_sits
