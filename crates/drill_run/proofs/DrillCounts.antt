@@ -8,9 +8,9 @@ use Rattle.std.proofs.lemmas.List.{get_or_default, length-map}
 use Rattle.std.proofs.lemmas.List.Elements.{All-head, All-tail}
 use Rattle.std.proofs.lemmas.List.FromFn.{length-range_with_len}
 use Rattle.agent_shards.specs.Each.{Each3}
-use Rattle.run_laws.specs.Lanes.{AnswersLane, HadMemory}
-use Rattle.run_laws.specs.LoadLaws.{LoadIsCounted}
-use Rattle.run_laws.specs.Requests.{IsLoadNode}
+use Rattle.node_journals.specs.Lanes.{AnswersLane, HadMemory}
+use Rattle.node_journals.specs.LoadLaws.{LoadIsCounted}
+use Rattle.node_journals.specs.Requests.{IsLoadNode}
 use Rattle.node_commands.specs.Words.{DrillWords}
 use Rattle.object_core.specs.Shelving.{numbers_of as object_numbers}
 use Rattle.taos_drill.specs.Opened.{drill_opening}

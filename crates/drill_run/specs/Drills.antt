@@ -3,8 +3,8 @@ use Rattle.std.specs.Prelude.{◌≡◌, ℕ, false, ◌<◌, List, [], ◌∷�
 use Rattle.std.specs.Io.KnownBytes.{Appends, Keeps}
 use Rattle.std.specs.List.{All, AllZip, range_with_len}
 use Rattle.frame_link.specs.Doors.{DoorSeen, door_of}
-use Rattle.run_laws.specs.Counts.{CountsLoad}
-use Rattle.run_laws.specs.Lanes.{HadMemory}
+use Rattle.node_journals.specs.Counts.{CountsLoad}
+use Rattle.node_journals.specs.Lanes.{HadMemory}
 use Rattle.frame_link.specs.declared.outcome.Outcome.TheVariants.{End}
 use Rattle.frame_link.specs.Plan.{plan_of}
 use Rattle.frame_link.specs.Faults.{Rose}

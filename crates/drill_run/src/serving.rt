@@ -11,7 +11,7 @@ ghost use Rattle.std.specs.declared.alloc.Global.{Global};
 use cred_pull::NoFetch;
 use frame_link::{Failed, Limits, MemClock, MemDoor, MemSource, NoRelay, Sink, pour};
 use node_commands::Drill;
-use run_laws::loads_are_counted;
+use node_journals::loads_are_counted;
 use std::alloc::{AllocError, Global};
 use std::sync::Wait;
 use std::thread::Threads;

@@ -37,8 +37,8 @@ use Rattle.agent_core.specs.Opened.{plan_for}
 use Rattle.agent_core.specs.State.{Plan}
 use Rattle.object_core.specs.Operation.{FitsOperation}
 use Rattle.journal_bytes.specs.Limits.{AsksWithin, AsksWithinOf, CitesFew, CitesFewOf, HasFittingOps, NumbersRise}
-use Rattle.run_laws.specs.LeftLaws.{AreAsksWithin, AreReplayedLegal, AreWritable}
-use Rattle.run_laws.specs.Left.{cells_in, journals_left, objects_of}
+use Rattle.node_journals.specs.LeftLaws.{AreAsksWithin, AreReplayedLegal, AreWritable}
+use Rattle.node_journals.specs.Left.{cells_in, journals_left, objects_of}
 use Rattle.audit_replay.specs.Replays.{AreReplayed, entries_in, judged}
 use Rattle.audit_replay.specs.declared.replayed.Replayed.{Replayed}
 use Rattle.taos_lanes.specs.Opened.{HasFewCommons, IsNodeOf, IsOpenedBy, IsSameNode, IsSmall, node_by, seen_by}

@@ -1,3 +1,13 @@
+pub mod Counts
+pub mod Courses
+pub mod JournalLaws
+pub mod Lanes
+pub mod Left
+pub mod LeftLaws
+pub mod Load
+pub mod LoadLaws
+pub mod Requests
+pub mod Works
 pub mod Audit
 pub mod AuditOf
 pub mod Replaying

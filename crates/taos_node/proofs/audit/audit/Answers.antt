@@ -11,7 +11,7 @@ use Rattle.node_journals.specs.Audit.{IsAuditOf}
 use Rattle.node_journals.specs.AuditOf.{all_in}
 use Rattle.taos_node.specs.Calls.{first_of}
 use Rattle.taos_lanes.specs.Opened.{HasFittingList, node_by, seen_by}
-use Rattle.run_laws.specs.LeftLaws.{AreAsksWithin, AreReplayedLegal, AreWritable, HasServed, alone}
+use Rattle.node_journals.specs.LeftLaws.{AreAsksWithin, AreReplayedLegal, AreWritable, HasServed, alone}
 use Rattle.node_journals.proofs.Audited.{all_asks, all_cite_few, all_ops_fit, few_commons, few_objects, is_audit, made_legal, numbers_apart, numbers_rise}
 use Rattle.taos_node.proofs.AuditEnds.{ended_causes, ended_complete, ended_same, ended_writes, stopped_causes, stopped_complete}
 use Rattle.taos_node.proofs.audit.audit.Goals as goal

@@ -1,5 +1,0 @@
-use Rattle.run_laws.proofs.Turning.{turned}
-use Rattle.run_laws.proofs.courses.courses_are_turned.Goals as goal
-
-pub returns : goal.returns
-returns c d n fits node J i is used sent course read had = turned d fits n node i is J used sent course read had

@@ -1,5 +1,0 @@
-use Rattle.run_laws.proofs.Knowing.{load_journal}
-use Rattle.run_laws.proofs.courses.shards_are_loads.Goals as goal
-
-pub returns : goal.returns
-returns c d n fits node J works s below = load_journal d fits n node J works s below
