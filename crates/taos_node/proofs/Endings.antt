@@ -9,15 +9,15 @@ use Rattle.frame_link.specs.Served.{CountsCause}
 use Rattle.node_file.specs.Opening.{Opening}
 use Rattle.node_journals.specs.declared.audit.AuditEnd.{AuditEnd}
 use Rattle.node_journals.specs.declared.audit.AuditEnd.TheVariants as audits
-use Rattle.drill_run.specs.declared.serving.DrillEnd.{DrillEnd}
-use Rattle.drill_run.specs.declared.serving.DrillEnd.TheVariants as drills
+use Rattle.taos_node.specs.declared.drill.serving.DrillEnd.{DrillEnd}
+use Rattle.taos_node.specs.declared.drill.serving.DrillEnd.TheVariants as drills
 use Rattle.taos_node.specs.Audit.{AuditCauses, AuditIsComplete}
 use Rattle.node_journals.specs.declared.audit.Form.{Form}
 use Rattle.node_journals.specs.declared.audit.Form.TheVariants as form
 use Rattle.taos_node.specs.Calls.{Touched}
 use Rattle.taos_node.specs.Command.{AsksAudit, ReadsClock, audit_task, counts_of}
 use Rattle.taos_node.specs.Status.{EndsWell, EndsWellFor, FileDecidesFor, IsStatus, PassesWell}
-use Rattle.drill_run.specs.Drills.{DrillCauses}
+use Rattle.taos_node.specs.Drills.{DrillCauses}
 use Rattle.node_commands.specs.Files.{IsNodeFile, IsPathFile, IsSteady, OpensNode, OpensPath, node_means, path_means}
 use Rattle.taos_node.specs.Deciding.{FileDecides}
 use Rattle.node_commands.specs.Paths.{PathCauses}

@@ -1,3 +1,5 @@
+pub mod DrillCounts
+pub mod DrillRuns
 pub mod Stopped
 pub mod Commands
 pub mod Notes

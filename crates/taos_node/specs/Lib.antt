@@ -1,3 +1,4 @@
+pub mod Drills
 pub mod Stops
 pub mod Notes
 pub mod Lanes

@@ -8,7 +8,7 @@ ghost use Rattle.frame_link.specs.Streams.{Stream};
 ghost use Rattle.std.specs.declared.alloc.Global.{Global};
 
 use crate::ending::Ending;
-use drill_run::drill;
+use crate::drill::serving::drill;
 use frame_link::Sink;
 use node_commands::Drill;
 use std::alloc::Global;

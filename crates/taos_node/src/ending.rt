@@ -4,7 +4,7 @@ ghost use Rattle.std.specs.Prelude.{◌≡◌};
 ghost use Rattle.taos_node.specs.Stops.{status_of};
 
 use crate::stop::{stop_of, stop_status};
-use drill_run::DrillEnd;
+use crate::drill::serving::DrillEnd;
 use frame_link::Outcome;
 use node_commands::{CheckEnd, FileFault, MintEnd, PathEnd};
 use node_journals::{AuditEnd, ReplayEnd};

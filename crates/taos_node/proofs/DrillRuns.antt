@@ -30,10 +30,10 @@ use Rattle.taos_lanes.specs.Serving.{IsRunOf, Left}
 use Rattle.taos_lanes.specs.Workers.{LaneShown}
 use Rattle.taos_lanes.specs.Visits.{Visit, is_broken, is_lacking}
 use Rattle.request_course.specs.Cells.{Node}
-use Rattle.drill_run.specs.Drills.{AnswersAll, AreDrillLanes, Came, IsDrillLane, ServesDrill, Wire, drill_limits, drill_shown, wire, wire_told}
+use Rattle.taos_node.specs.Drills.{AnswersAll, AreDrillLanes, Came, IsDrillLane, ServesDrill, Wire, drill_limits, drill_shown, wire, wire_told}
 use Rattle.node_commands.specs.Words.{DrillWords}
 use Rattle.node_journals.specs.Requests.{FitsDrill}
-use Rattle.drill_run.proofs.DrillCounts.{LoadsAreCounted, lanes_answered, load_node, one_each}
+use Rattle.taos_node.proofs.DrillCounts.{LoadsAreCounted, lanes_answered, load_node, one_each}
 
 -- ---- one more lane
 

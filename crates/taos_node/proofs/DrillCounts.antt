@@ -22,7 +22,7 @@ use Rattle.taos_lanes.specs.Workers.{LaneShown}
 use Rattle.taos_lanes.specs.Visits.{Visit}
 use Rattle.request_course.specs.Cells.{Node}
 use Rattle.request_course.specs.World.{World}
-use Rattle.drill_run.specs.Drills.{AnswersAll, AreDrillLanes, HaveMemory, Wire, wire_told}
+use Rattle.taos_node.specs.Drills.{AnswersAll, AreDrillLanes, HaveMemory, Wire, wire_told}
 use Rattle.taos_lanes.specs.Opened.{IsNodeOf}
 use Rattle.frame_link.specs.Streams.{Stream}
 use Rattle.frame_link.specs.declared.limits.Limits.{Limits}

@@ -3,8 +3,8 @@ use Rattle.std.proofs.Common.{sym, subst, ◌∙◌}
 use Rattle.std.specs.Io.KnownBytes.{Appends}
 use Rattle.taos_lanes.specs.Serving.{left_by}
 use Rattle.node_commands.specs.Words.{drill_words}
-use Rattle.drill_run.proofs.DrillRuns.{came}
-use Rattle.drill_run.proofs.serving.drill.Goals as goal
+use Rattle.taos_node.proofs.DrillRuns.{came}
+use Rattle.taos_node.proofs.drill.serving.drill.Goals as goal
 
 pub returns-in-Ok-pour-clause-drills : goal.returns-in-Ok-pour-clause-drills
 returns-in-Ok-pour-clause-drills g c =

@@ -4,7 +4,7 @@ ghost use Rattle.std.specs.Prelude.{◌≡◌, ◌≤◌, IfOk, length, map};
 ghost use Rattle.taos_lanes.specs.Serving.{left_by};
 ghost use Rattle.taos_wire.specs.View.{text_of};
 ghost use Rattle.taos_drill.specs.declared.numbers.TheConstants.{MAX_LANES, MAX_REQUESTS};
-ghost use Rattle.drill_run.specs.Drills.{AreDrillLanes, DrillCauses, Drills, IsDrillLane, ServesDrill, drill_shown};
+ghost use Rattle.taos_node.specs.Drills.{AreDrillLanes, DrillCauses, Drills, IsDrillLane, ServesDrill, drill_shown};
 ghost use Rattle.node_commands.specs.Words.{drill_words};
 ghost use Rattle.std.specs.declared.alloc.Global.{Global};
 

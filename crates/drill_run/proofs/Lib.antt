@@ -1,2 +1,0 @@
-pub mod DrillCounts
-pub mod DrillRuns
