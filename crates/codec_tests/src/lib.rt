@@ -3,13 +3,23 @@
 #![tactic(auto)]
 
 #[cfg(test)]
+mod asks;
+#[cfg(test)]
 mod frames;
+#[cfg(test)]
+mod gate;
+#[cfg(test)]
+mod kept_once;
 #[cfg(test)]
 mod loads;
 #[cfg(test)]
 mod opened;
 #[cfg(test)]
+mod presented;
+#[cfg(test)]
 mod printed;
+#[cfg(test)]
+mod remembering;
 #[cfg(test)]
 mod tags;
 #[cfg(test)]
