@@ -1,4 +1,4 @@
-//! The limits of texts, as a law.
+//! The limits of texts and files, as a law.
 
 ghost use Rattle.std.specs.Prelude.{◌≡◌};
 ghost use Rattle.prin_text.specs.declared.limits.TheConstants.{MAX_TEXT, MAX_NAMES, MAX_ROLES, MAX_ENTRIES};

@@ -2,7 +2,7 @@ use Rattle.std.proofs.Common.{[], ◌++◌, inl, inr, ◌≡◌, refl, subst, Co
 use Rattle.prin_term.specs.Principal.{Principal, Key, Name, And, Quoting, InRole, For, subterms}
 use Rattle.prin_term.specs.View.{principal}
 use Rattle.stmt_codec.proofs.Members.{here}
-use Rattle.codec_tests.proofs.remembering.answers.Goals as goal
+use Rattle.core_tests.proofs.remembering.answers.Goals as goal
 
 itself : (p : Principal) → Contains (subterms p) p
 itself (Key k) = here (Key k) []
