@@ -4,9 +4,7 @@ ghost use Rattle.std.specs.Prelude.{◌≡◌, ◌<◌, ◌≤◌, length, vec_l
 
 use crate::own::Own;
 use crate::setting::Setting;
-use system_hub::{MAX_CLIENTS, MAX_LANES};
-use node_telling::shows_seal;
-use node_telling::{Breakage, Happening, Listener, Shutter, Teller, teller_of};
+use node_telling::{Breakage, Happening, Listener, Shutter, Teller, shows_seal, teller_of};
 use std::alloc::{AllocError, Global};
 use std::fs::File;
 use std::io;
@@ -14,7 +12,10 @@ use std::io::{ErrorKind, Write};
 use std::net::{SocketAddr, TcpListener};
 use std::thread::Threads;
 use std::time::{Clock, Duration};
-use system_hub::{Edge, LaneEnd, Patience, Running, Watch, clients_within, descriptors_of, start};
+use system_hub::{
+    Edge, LaneEnd, MAX_CLIENTS, MAX_LANES, Patience, Running, Watch, clients_within,
+    descriptors_of, start,
+};
 use system_io::{Doorway, FIRST, FRAME, IDLE, LINGER, TAKE, doorways_of, first_place};
 
 // Where a client's first payload has the number that tells its lane: a request its channel, and a

@@ -1,8 +1,8 @@
 //! The program's own options, before its first three words.
 
-use system_hub::MAX_CLIENTS;
 use node_telling::{Form, Tells};
 use std::time::Duration;
+use system_hub::MAX_CLIENTS;
 
 // The most seconds that a peer may have between frames.
 const MAX_IDLE: u64 = 86_400;

@@ -4,9 +4,10 @@ use crate::doors::Switch;
 use crate::own::Own;
 use crate::setting::{Setting, serves_doors};
 use crate::telling::{Told, served_of};
-use node_telling::{Addresses, Bounds, Ended, Started, ended_line, started_line};
-use node_telling::{Form, Listener, seconds_of};
 use node_commands::Wanted;
+use node_telling::{
+    Addresses, Bounds, Ended, Form, Listener, Started, ended_line, seconds_of, started_line,
+};
 use std::alloc::{AllocError, Global};
 use std::fmt::Display;
 use std::io::Write;

@@ -4,14 +4,12 @@ use crate::decisions::{Logs, Losses};
 use crate::own::Own;
 use crate::setting::Setting;
 use crate::usage::VERSION_NUMBER;
-use node_commands::file_opening;
+use node_commands::{Wanted, file_opening};
 use node_file::Opening;
-use node_telling::Served;
 use node_telling::{
-    Counted, Counting, Form, Journals, Listener, NoticeQueue, Rounds, Scribe, StatusDoor, Stop,
-    Tally, Teller, Tells, notices_of, teller_of,
+    Counted, Counting, Form, Journals, Listener, NoticeQueue, Rounds, Scribe, Served, StatusDoor,
+    Stop, Tally, Teller, Tells, notices_of, teller_of,
 };
-use node_commands::Wanted;
 use std::alloc::{AllocError, Global};
 use std::fs::File;
 use std::io;

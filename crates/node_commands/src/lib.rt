@@ -12,7 +12,7 @@ mod minting;
 mod path;
 mod words;
 
-pub use check::{MAX_REPLY, CheckEnd, check_connection, one_check};
+pub use check::{CheckEnd, MAX_REPLY, check_connection, one_check};
 pub use checking::{check_frames, one_finding};
 pub use fault::FileFault;
 pub use file::{file_domains, file_opening, file_relay, file_wallet};
@@ -21,4 +21,4 @@ pub use limit_laws::limits_are;
 pub use minting::{MintEnd, MintWord, mint};
 pub use path::{PathEnd, pass};
 pub use words::meaning::{one_meaning, wanted_of};
-pub use words::wanted::{LANE_CONNECTIONS, MAX_FRAMES, Drill, Mint, Path, Route, Wanted};
+pub use words::wanted::{Drill, LANE_CONNECTIONS, MAX_FRAMES, Mint, Path, Route, Wanted};

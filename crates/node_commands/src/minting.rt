@@ -10,11 +10,11 @@ ghost use Rattle.stmt_codec.specs.Certificates.{certificate, IsWithinLimits};
 ghost use Rattle.node_commands.specs.Minting.{AreTimes, AsksFor, Begins, HasNoTimes, IsBadQuote, IsMinted, IsMoment, IsNobody, IsQuoted, IsStopped, MintCauses, Mints, minted_line};
 ghost use Rattle.node_commands.specs.Words.{mint_words};
 
+use crate::words::wanted::Mint;
 use credential_kit::{Signer, issue_body};
 use frame_link::{Failed, Sink, pour};
 use jiff::Timestamp;
 use node_file::RelayFile;
-use crate::words::wanted::Mint;
 use prin_term::Term;
 use prin_text::{Names, TextFault, read_principal};
 use std::alloc::{AllocError, Global};

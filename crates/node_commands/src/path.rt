@@ -11,8 +11,8 @@ ghost use Rattle.relay_core.specs.declared.message.TheConstants.{MAX_CERT};
 ghost use Rattle.relay_path.specs.Domains.{LinksAgree, knows};
 ghost use Rattle.node_commands.specs.Paths.{AreLines, HasNoLines, PathCauses, Passes, bytes_or_none};
 
-use frame_link::{Failed, FrameBuf, Next, Sink, Source, next_frame, pour};
 use crate::words::wanted::Path;
+use frame_link::{Failed, FrameBuf, Next, Sink, Source, next_frame, pour};
 use relay_core::MAX_CERT;
 use relay_path::{Along, Domain, along};
 use std::alloc::Global;

@@ -13,7 +13,6 @@ mod relay_file;
 mod relay_kind;
 mod relay_reading;
 
-pub use prin_text::{FileCause, FileFault};
 pub use laws::{one_opening, openings_are_read, printed_openings_are_read};
 pub use limit_laws::limits_are;
 pub use limits::{
@@ -24,5 +23,6 @@ pub use node_text::print_opening;
 pub use object_plan::ObjectPlan;
 pub use object_plans::ObjectPlans;
 pub use opening::{Opening, read_opening};
+pub use prin_text::{FileCause, FileFault};
 pub use relay_file::RelayFile;
 pub use relay_reading::read_relay_file;

@@ -11,10 +11,9 @@ use crate::limits::{MAX_FILE, MAX_ISSUERS, MAX_NODES};
 use crate::relay_file::RelayFile;
 use crate::relay_kind::{RelayKind, relay_kind};
 use prin_text::{
-    FileCause, FileFault, KeyDraft, LineFault, is_first_line, is_plain, is_skipped, line_at,
+    FileCause, FileFault, KeyDraft, LineFault, Names, is_first_line, is_plain, is_skipped, line_at,
     take_key, take_name, take_role, word_off,
 };
-use prin_text::Names;
 use relay_core::RelayTable;
 use std::alloc::{AllocError, Global};
 

@@ -2,8 +2,8 @@
 
 ghost use Rattle.std.specs.Prelude.{◌<◌, ◌≤◌, length};
 
-use arrayvec::ArrayVec;
 use crate::texts::reply::FRONT;
+use arrayvec::ArrayVec;
 use system_hub::Place;
 
 /// The front of the payload that passes, however its frame is cut into pieces.

@@ -6,11 +6,11 @@ ghost use Rattle.http_server.specs.Response.{IsResponse};
 ghost use Rattle.node_telling.specs.Page.{page};
 ghost use Rattle.node_telling.specs.Answering.{Answers, Reads, closing, typed};
 
+use crate::texts::page::push_page;
+use crate::texts::status::Status;
 use bytes::{BufMut, Bytes};
 use http::{HeaderName, HeaderValue, Request, StatusCode};
 use http_server::{Response, Service};
-use crate::texts::status::Status;
-use crate::texts::page::push_page;
 use std::alloc::{AllocError, Global};
 
 const PAGE_TYPE: &str = "text/plain; version=0.0.4; charset=utf-8";

@@ -1,8 +1,8 @@
 //! What lanes count as they serve. No lane waits for anything.
 
 use crate::journals::Journals;
-use crate::texts::status::{ANSWERS, BUCKETS, CAUSES, STATUSES, Status, answer_place, cause_place};
 use crate::texts::notice::Happening;
+use crate::texts::status::{ANSWERS, BUCKETS, CAUSES, STATUSES, Status, answer_place, cause_place};
 use crate::texts::timing::place_of;
 use std::alloc::{AllocError, Global};
 use std::sync::Arc;

@@ -19,12 +19,17 @@ mod words;
 
 pub use fault::{NamesFault, TextCause, TextFault};
 pub use label::Label;
-pub use laws::{faults_are_exact, lists_are_read, principals_are_read, printed_lists_are_read, printed_principals_are_read};
+pub use laws::{
+    faults_are_exact, lists_are_read, principals_are_read, printed_lists_are_read,
+    printed_principals_are_read,
+};
 pub use limit_laws::limits_are;
 pub use limits::{MAX_ENTRIES, MAX_NAMES, MAX_ROLES, MAX_TEXT};
 pub use lines::adding::add_key;
 pub use lines::fault::{FileCause, FileFault};
-pub use lines::field::{digits, granted, keyed, numbered, numbered_digits, one_number, two_numbers_and_key};
+pub use lines::field::{
+    digits, granted, keyed, numbered, numbered_digits, one_number, two_numbers_and_key,
+};
 pub use lines::key_draft::KeyDraft;
 pub use lines::limits::MAX_FILE;
 pub use lines::line::line_at;

@@ -15,12 +15,12 @@ ghost use Rattle.node_file.specs.OpeningView.{Represents};
 ghost use Rattle.shard_core.specs.Cells.{AllFit, AreCellsOf, cells_of, its_plans, new_object, numbers_of};
 ghost use Rattle.node_file.specs.Plans.{AreByNumber};
 
+use crate::opened::open_shards;
+use crate::shard::Shard;
 use keyed_seal::KeyTable;
 use node_file::{ObjectPlans, Opening};
 use object_core::Object;
 use prin_term::Entry;
-use crate::shard::Shard;
-use crate::opened::open_shards;
 use std::alloc::{AllocError, Global};
 use std::sync::Arc;
 

@@ -6,11 +6,11 @@ ghost use Rattle.system_hub.specs.Kept.{IsHere};
 ghost use Rattle.system_hub.specs.Floors.{IsDoneWith, IsMoved};
 
 use crate::breakage::Breakage;
+use crate::machine::hub::Hub;
+use crate::machine::limits::MAX_KEPT;
 use crate::pace::Pace;
 use crate::parting::Parting;
 use crate::patience::Patience;
-use crate::machine::hub::Hub;
-use crate::machine::limits::MAX_KEPT;
 use mio::net::TcpStream;
 use std::io::{ErrorKind, Read, Write};
 use std::net::SocketAddr;

@@ -8,11 +8,11 @@ ghost use Rattle.system_hub.specs.Floors.{HasHistory, HasNoSocket, IsFloor};
 
 use crate::breakage::Breakage;
 use crate::client::Client;
-use crate::patience::Patience;
-use crate::tokens::{Socket, token_of};
 use crate::machine::answering::Answer;
 use crate::machine::hub::Hub;
 use crate::machine::limits::MAX_CLIENTS;
+use crate::patience::Patience;
+use crate::tokens::{Socket, token_of};
 use frame_link::MAX_PAYLOAD;
 use mio::net::TcpStream;
 use mio::{Interest, Registry};

@@ -33,7 +33,9 @@ pub use machine::answering::Answer;
 pub use machine::buffer::Buffer;
 pub use machine::hub::Hub;
 pub use machine::laws::{seats_are_of_who_is_served, seats_are_of_who_is_well, taken_are_first};
-pub use machine::limits::{MAX_AT_LANE, MAX_CLIENTS, MAX_KEPT, MAX_LANES, MAX_LEFT, MAX_READY, MAX_UNDER_WAY};
+pub use machine::limits::{
+    MAX_AT_LANE, MAX_CLIENTS, MAX_KEPT, MAX_LANES, MAX_LEFT, MAX_READY, MAX_UNDER_WAY,
+};
 pub use patience::Patience;
 pub use place::Place;
 pub use watch::Watch;

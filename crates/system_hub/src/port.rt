@@ -4,8 +4,8 @@ ghost use Rattle.std.specs.Prelude.{◌≡◌, ◌≤◌, ◌<◌, length, IfOk}
 
 use crate::lane_end::LaneEnd;
 use crate::limits::PIECE;
-use crate::place::Place;
 use crate::machine::buffer::Buffer;
+use crate::place::Place;
 use mio::net::UnixStream;
 use std::alloc::{AllocError, Global};
 use std::io::{ErrorKind, Write};

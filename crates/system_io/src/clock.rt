@@ -7,8 +7,7 @@ ghost use Rattle.frame_link.specs.Streams.{stream};
 ghost use Rattle.system_io.specs.Readings.{IsBelieved, lead_of};
 
 use frame_link::{Clock, Failed};
-use node_telling::Happening;
-use node_telling::{Teller, seconds_of};
+use node_telling::{Happening, Teller, seconds_of};
 use std::alloc::Global;
 use std::sync::Arc;
 use std::sync::atomic::{AtomicU64, Ordering};

@@ -5,8 +5,7 @@ ghost use Rattle.frame_link.specs.Doors.{door_of};
 
 use crate::peer::{PeerInput, PeerOutput, Terms, halves};
 use frame_link::{Door, Failed};
-use node_telling::Happening;
-use node_telling::Listener;
+use node_telling::{Happening, Listener};
 use std::alloc::Global;
 use std::net::{SocketAddr, TcpListener};
 use std::thread;

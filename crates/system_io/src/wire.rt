@@ -4,8 +4,7 @@ ghost use Rattle.std.specs.Prelude.{◌≡◌, IsSome, None};
 
 use crate::line::Line;
 use crate::talk::Silence;
-use node_telling::Happening;
-use node_telling::{Teller, Term, is_cut_short};
+use node_telling::{Happening, Teller, Term, is_cut_short};
 use std::alloc::Global;
 use std::io;
 use std::io::ErrorKind;

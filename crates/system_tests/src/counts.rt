@@ -1,5 +1,4 @@
-use node_telling::push_page;
-use node_telling::{Happening, Journals, Tally, status_of};
+use node_telling::{Happening, Journals, Tally, push_page, status_of};
 use std::sync::Arc;
 use std::test::*;
 

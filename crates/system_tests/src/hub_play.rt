@@ -1,9 +1,9 @@
 ghost use Rattle.std.specs.Prelude.{◌<◌, ◌≤◌, vec_capacity};
 ghost use Rattle.frame_link.specs.declared.service.TheConstants.{MAX_PAYLOAD};
 
-use system_hub::{Answer, Hub};
 use frame_link::MAX_PAYLOAD;
 use std::test::*;
+use system_hub::{Answer, Hub};
 
 // What happens at a hub of three seats and two lanes, and what has to come of it. The first client
 // has number 2, the next ones 1 and 0, and who has the seat of 2 after it has 5.

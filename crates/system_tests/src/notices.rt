@@ -1,7 +1,6 @@
-use node_telling::reply_at;
 use node_telling::{
     Breakage, Form, Happening, LINES, LeftOut, Notice, NoticeQueue, Notices, Scribe, Telling,
-    Tells, WAITING, code_of, notices_of,
+    Tells, WAITING, code_of, notices_of, reply_at,
 };
 use std::alloc::{AllocError, Global};
 use std::io::{Read, Write};

@@ -1,10 +1,9 @@
 use arrayvec::ArrayVec;
 use cred_pull::Fetch;
 use frame_link::{Clock, Door, RelayLink, fill, pour};
-use node_telling::push_page;
 use node_telling::{
     Breakage, Counting, Happening, Journals, NoticeQueue, Rounds, Stop, Tally, Tells, notices_of,
-    status_of, teller_of,
+    push_page, status_of, teller_of,
 };
 use std::alloc::{AllocError, Global};
 use std::io::{ErrorKind, Write};

@@ -17,9 +17,8 @@ ghost use Rattle.taos_lanes.specs.Opened.{IsNodeOf, IsOpenedBy, IsSmall};
 use crate::NodeParts;
 use keyed_seal::Sealer;
 use node_file::Opening;
-use shard_core::{objects_of, shards_of};
 use object_core::LoneShelf;
-use shard_core::Lone;
+use shard_core::{Lone, objects_of, shards_of};
 use std::alloc::{AllocError, Global};
 use taos_monitor::NodeKeys;
 

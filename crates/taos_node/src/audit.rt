@@ -17,8 +17,9 @@ use crate::command::{FirstAsked, Opened, node_file_of, serve_first};
 use crate::ending::Ending;
 use agent_core::MAX_SHARDS;
 use frame_link::{Failed, Outcome, Sink, Source};
-use node_journals::{AuditEnd, Form, write_text};
-use node_journals::{what_a_node_left_is_replayed, what_a_node_left_is_writable};
+use node_journals::{
+    AuditEnd, Form, what_a_node_left_is_replayed, what_a_node_left_is_writable, write_text,
+};
 use std::alloc::Global;
 use std::sync::Wait;
 use taos_lanes::Worker;

@@ -7,8 +7,10 @@ ghost use Rattle.taos_node.specs.Status.{EndsWithoutLanes};
 ghost use Rattle.frame_link.specs.Streams.{Stream};
 ghost use Rattle.std.specs.declared.alloc.Global.{Global};
 
-use crate::ending::Ending;
+pub(crate) mod serving;
+
 use crate::drill::serving::drill;
+use crate::ending::Ending;
 use frame_link::Sink;
 use node_commands::Drill;
 use std::alloc::Global;

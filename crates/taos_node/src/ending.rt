@@ -3,8 +3,8 @@
 ghost use Rattle.std.specs.Prelude.{◌≡◌};
 ghost use Rattle.taos_node.specs.Stops.{status_of};
 
-use crate::stop::{stop_of, stop_status};
 use crate::drill::serving::DrillEnd;
+use crate::stop::{stop_of, stop_status};
 use frame_link::Outcome;
 use node_commands::{CheckEnd, FileFault, MintEnd, PathEnd};
 use node_journals::{AuditEnd, ReplayEnd};

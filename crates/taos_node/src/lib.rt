@@ -15,13 +15,15 @@ mod replay;
 mod stop;
 mod wallet;
 
-pub use command::taos;
 pub use crate::drill::serving::DrillEnd;
+pub use command::taos;
 pub use drill::serving::{DrillEnd, drill};
 pub use ending::{Ending, LanesEnd, status_of};
 pub use frame_link::Outcome;
-pub use node_commands::{FileFault, MintEnd, MintWord, PathEnd, Wanted, file_opening, file_wallet, wanted_of};
-pub use node_journals::{MAX_JOURNALS, AuditEnd, ReplayEnd};
+pub use node_commands::{
+    FileFault, MintEnd, MintWord, PathEnd, Wanted, file_opening, file_wallet, wanted_of,
+};
+pub use node_journals::{AuditEnd, MAX_JOURNALS, ReplayEnd};
 pub use note::tell;
 pub use stop::{Stop, stop_of, stop_status};
 pub use taos_lanes::Lane;

@@ -8,8 +8,7 @@ ghost use Rattle.taos_node.specs.Status.{EndsWithoutLanes};
 
 use crate::ending::Ending;
 use frame_link::{Sink, Source};
-use node_commands::{file_domains, pass};
-use node_commands::Path;
+use node_commands::{Path, file_domains, pass};
 use std::alloc::Global;
 
 /// Passes the certificate of the input along the route, by the domains of a file.

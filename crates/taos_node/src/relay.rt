@@ -8,8 +8,7 @@ ghost use Rattle.node_commands.specs.Words.{Mint, Relay, mint_words};
 
 use crate::ending::Ending;
 use frame_link::{Sink, Source};
-use node_commands::{file_relay, mint};
-use node_commands::Mint as MintAsked;
+use node_commands::{Mint as MintAsked, file_relay, mint};
 use relay_core::serve_relay;
 use std::alloc::Global;
 

@@ -8,10 +8,9 @@ ghost use Rattle.node_file.specs.NodeLines.{cause_of, grants_and, grants_with, w
 ghost use Rattle.node_file.specs.NodeView.{TakesGrant};
 
 use crate::object_drafts::ObjectDrafts;
-use prin_text::{FileCause, LineFault, granted};
 use object_core::MAX_ENTRIES;
 use prin_term::{ENTRY_NODES, Entry, Term};
-use prin_text::{Names, TextCause, TextFault, read_principal};
+use prin_text::{FileCause, LineFault, Names, TextCause, TextFault, granted, read_principal};
 use std::alloc::Global;
 
 // The cause of a line for that of its principal.

@@ -6,9 +6,8 @@ ghost use Rattle.node_file.specs.NodeLines.{anchor_said, anchors_and, anchors_wi
 ghost use Rattle.prin_text.specs.Words.{begins};
 
 use crate::limits::MAX_ANCHORS;
-use prin_text::{FileCause, LineFault, number_up_to, numbered};
 use prin_term::Anchor;
-use prin_text::Names;
+use prin_text::{FileCause, LineFault, Names, number_up_to, numbered};
 
 fn begins(word: &[u8], front: &str) -> bool
     ensures value { result ≡ begins front.now word.now }

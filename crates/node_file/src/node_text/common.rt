@@ -9,8 +9,8 @@ ghost use Rattle.stmt_codec.specs.Certificates.{certificate};
 
 use crate::limits::MAX_COMMONS;
 use crate::opening::common::is_among;
-use prin_text::{FileCause, LineFault, digits};
 use keyed_seal::Sealer;
+use prin_text::{FileCause, LineFault, digits};
 use sealed_cert::{SealFault, open_with};
 use std::alloc::Global;
 use std::sync::Arc;

@@ -9,8 +9,8 @@ ghost use Rattle.node_file.specs.Plans.{HoldsPlans, drafted};
 
 use crate::limits::MAX_OBJECTS;
 use crate::object_drafts::{ObjectDraft, ObjectDrafts};
-use prin_text::{FileCause, LineFault, numbered_digits, one_number};
 use object_core::MAX_CONTENT;
+use prin_text::{FileCause, LineFault, numbered_digits, one_number};
 use std::alloc::Global;
 
 // An object without content and with an empty access list.

@@ -21,8 +21,7 @@ use crate::opening::head::head_of;
 use crate::opening::object::objects_of;
 use crate::opening::table::{anchors_of, channels_of};
 use byte_fields::{FormatFault, ended};
-use prin_text::{FileCause, FileFault};
-use prin_text::Names;
+use prin_text::{FileCause, FileFault, Names};
 use std::alloc::Global;
 
 // All fields, and the offset after them. The binary form has no texts.

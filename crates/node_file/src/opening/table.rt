@@ -12,9 +12,9 @@ ghost use Rattle.byte_fields.specs.Readers.{items_behind};
 
 use crate::limits::{MAX_ANCHORS, MAX_CHANNELS};
 use byte_fields::{FormatFault, array_at, count_up_to, ended, length_up_to, u32_at};
-use prin_text::KeyDraft;
 use keyed_seal::KeyTable;
 use prin_term::Anchor;
+use prin_text::KeyDraft;
 use std::alloc::Global;
 use std::sync::Arc;
 

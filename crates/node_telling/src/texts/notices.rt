@@ -16,7 +16,9 @@ ghost use Rattle.node_telling.specs.NoticeLines.{
 
 use crate::texts::asked::put_asked;
 use crate::texts::journal::Journal;
-use crate::texts::members::{put_byte, put_first, put_number, put_peer, put_short, put_some, put_text};
+use crate::texts::members::{
+    put_byte, put_first, put_number, put_peer, put_short, put_some, put_text,
+};
 use crate::texts::notice::{Happening, LeftOut, Notice};
 use crate::texts::reply::{ReplyFront, link_word_of, names_request};
 use json::Writer;

@@ -3,7 +3,9 @@
 ghost use Rattle.std.specs.Prelude.{◌≡◌, ◌++◌, OnErr, OnOk, string_bytes};
 ghost use Rattle.node_telling.specs.Page.{page};
 
-use crate::texts::page_parts::{push_faults, push_journals, push_outcomes, push_service, push_times};
+use crate::texts::page_parts::{
+    push_faults, push_journals, push_outcomes, push_service, push_times,
+};
 use crate::texts::status::Status;
 use std::alloc::{AllocError, Global};
 

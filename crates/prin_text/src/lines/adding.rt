@@ -8,11 +8,11 @@ ghost use Rattle.prin_text.specs.FileLines.{key_cause, text_cause, unless};
 ghost use Rattle.prin_text.specs.Held.{HoldsKeys, HoldsRows};
 ghost use Rattle.prin_text.specs.LineView.{TakesLine, fault_of};
 
+use crate::fault::NamesFault;
 use crate::lines::fault::FileCause;
 use crate::lines::key_draft::KeyDraft;
 use crate::lines::line_fault::LineFault;
 use crate::names::Names;
-use crate::fault::NamesFault;
 use std::alloc::Global;
 use std::str::from_utf8;
 
