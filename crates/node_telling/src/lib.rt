@@ -23,7 +23,6 @@ mod term;
 mod texts;
 mod warnings;
 
-pub use crate::texts::notice::{Happening, LeftOut, Notice};
 pub use answer::code_of;
 pub use cut_short::{is_cut_short, read_on, write_on};
 pub use decisions::{Decisions, Log, Lost, Stopping};

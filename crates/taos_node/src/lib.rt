@@ -15,7 +15,6 @@ mod replay;
 mod stop;
 mod wallet;
 
-pub use crate::drill::serving::DrillEnd;
 pub use command::taos;
 pub use drill::serving::{DrillEnd, drill};
 pub use ending::{Ending, LanesEnd, status_of};
