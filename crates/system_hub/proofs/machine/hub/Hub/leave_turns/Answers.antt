@@ -5,7 +5,7 @@ use Rattle.system_hub.specs.Calls.{MayLeave, HasLeftTurns}
 use Rattle.system_hub.specs.Queues.{Queues}
 use Rattle.system_hub.specs.declared.machine.seat.Route.{Route}
 use Rattle.system_hub.specs.declared.machine.seat.Seat.{Seat}
-use Rattle.system_hub.specs.contracts.hub.Hub.{the_view}
+use Rattle.system_hub.specs.contracts.machine.hub.Hub.{the_view}
 use Rattle.system_hub.specs.declared.machine.hub.Hub.TheInside.{Inside}
 use Rattle.system_hub.proofs.Calling.{read_at}
 use Rattle.system_hub.proofs.Leaving.{left_none, left_past, left_turns, no_turn_there}

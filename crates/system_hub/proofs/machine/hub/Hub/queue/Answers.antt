@@ -3,7 +3,7 @@ use Rattle.std.proofs.Common.{ℕ, ◌<◌, length, sym, subst, Some, true}
 use Rattle.system_hub.specs.Kept.{Kept}
 use Rattle.system_hub.specs.Calls.{Settles, WantsTurn}
 use Rattle.system_hub.specs.Queues.{Queues}
-use Rattle.system_hub.specs.contracts.hub.Hub.{the_view}
+use Rattle.system_hub.specs.contracts.machine.hub.Hub.{the_view}
 use Rattle.system_hub.specs.declared.machine.hub.Hub.TheInside.{Inside}
 use Rattle.system_hub.specs.declared.machine.seat.Seat.{Seat}
 use Rattle.system_hub.proofs.Waiting.{has_place}
