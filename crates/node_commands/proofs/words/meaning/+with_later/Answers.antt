@@ -3,7 +3,7 @@ use Rattle.std.proofs.Common.{Option, ap}
 use Rattle.std.specs.Option.{option_map}
 use Rattle.node_commands.specs.Routes.{numbers_in}
 use Rattle.node_commands.proofs.Routes.{no_number, no_room, nothing_behind, read_on}
-use Rattle.node_commands.proofs.words.meaning+with_later.Goals as goal
+use Rattle.node_commands.proofs.words.meaning.+with_later.Goals as goal
 
 pub returns-in_default : goal.returns-in_default
 returns-in_default t c =

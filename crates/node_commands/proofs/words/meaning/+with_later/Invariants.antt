@@ -1,7 +1,7 @@
 use Rattle.std.proofs.Common.{length}
 use Rattle.std.specs.Option.{option_map}
 use Rattle.node_commands.specs.Routes.{pieces_behind}
-use Rattle.node_commands.proofs.words.meaning+with_later.Given as goal
+use Rattle.node_commands.proofs.words.meaning.+with_later.Given as goal
 
 -- fewer pieces are left
 abbrev pub decreases-with_later : goal.decreases-with_later
