@@ -23,6 +23,7 @@ impl Search {
         ensures less { room_in self.new.cells < room_in self.old.cells }
     {
         self.cells.fill(row, number as usize, reason);
+        self.growth.came(row, self.cells.count);
         self.queue.put(number);
     }
 

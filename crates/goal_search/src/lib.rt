@@ -5,10 +5,12 @@
 mod asked;
 mod cells;
 mod close;
+mod compounds;
 mod edges;
 mod entering;
 mod gather;
 mod going_on;
+mod growth;
 mod hearing;
 pub mod laws;
 mod look;
@@ -23,6 +25,7 @@ mod telling;
 mod telling_cells;
 mod telling_edges;
 mod telling_heard;
+mod witness;
 mod workbench;
 
 pub use workbench::Workbench;

@@ -135,13 +135,14 @@ impl Search {
         self.all_passed_gaps(row)
     }
 
-    /// What is left to do.
+    /// What is left to do, about the row that was wanted last first.
     pub fn gap(&self) -> Option<Gap>
         requires ready { IsReady (core self.now) }
         ensures { MatchOption result (IsSettled (core self.now)) (IsGap (core self.now)) }
     {
-        for place in 0..self.wanted.len() {
-            if let Some(gap) = self.row_gap(self.wanted[place] as usize) {
+        let count = self.wanted.len();
+        for step in 0..count {
+            if let Some(gap) = self.row_gap(self.wanted[count - 1 - step] as usize) {
                 return Some(gap);
             }
         }

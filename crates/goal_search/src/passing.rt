@@ -13,6 +13,7 @@ ghost use Rattle.goal_search.specs.Searching.{Has, about};
 use crate::look::Gap;
 use crate::refusing::Side;
 use crate::search::Search;
+use crate::witness::Witnesses;
 use taos_calculus::Node;
 
 impl Search {
@@ -194,8 +195,8 @@ impl Search {
         None
     }
 
-    // Whether it is of a form that is passed on part by part.
-    fn is_compound(&self, number: u16) -> bool
+    /// Whether it is of a form that is passed on part by part.
+    pub fn is_compound(&self, number: u16) -> bool
         requires ready { IsReady (core self.now) }
         requires number_in { IsNumber (core self.now) number }
         ensures { IsTrue result ⊎ ((row from : ℕ) → IsPassedOnIn (core self.now) row from number) }
@@ -256,7 +257,14 @@ impl Search {
     }
 
     // What a number that the row has, of this form, would give it of one.
-    fn given_gap(&self, row: usize, from: u16, to: u16, form: u64) -> Option<Gap>
+    fn given_gap(
+        &self,
+        row: usize,
+        from: u16,
+        to: u16,
+        form: u64,
+        witnesses: Witnesses,
+    ) -> Option<Gap>
         requires ready { IsReady (core self.now) }
         requires row_in { IsRow (core self.now) row }
         requires from_in { IsNumber (core self.now) from }
@@ -268,6 +276,9 @@ impl Search {
             (IsGap (core self.now)) }
     {
         if self.form(to) != form {
+            return None;
+        }
+        if self.refuse_form(witnesses, from, to) {
             return None;
         }
         self.passed_gap(row, from, to)
@@ -285,8 +296,9 @@ impl Search {
             ((to : ℕ) → IsNumber (core self.now) to → IsPassedOnIn (core self.now) row from to)
             (IsGap (core self.now)) }
     {
+        let witnesses = self.witnesses(from);
         for to in 0..self.nodes.len() {
-            if let Some(gap) = self.given_gap(row, from, to as u16, form) {
+            if let Some(gap) = self.given_gap(row, from, to as u16, form, witnesses) {
                 return Some(gap);
             }
         }

@@ -5,6 +5,7 @@ ghost use Rattle.taos_calculus.specs.declared.decide.TheConstants.{MAX_ANCHORS, 
 ghost use Rattle.taos_calculus.specs.declared.proof.TheConstants.{MAX_NODES};
 
 use crate::cells::Cells;
+use crate::growth::{Growth, MAX_ROWS};
 use crate::queue::Queue;
 use prin_term::Anchor;
 use std::alloc::{AllocError, Global};
@@ -16,9 +17,6 @@ pub const AT_ONCE: u16 = 1_296;
 
 /// The reason of a conjunction both of whose parts are in the row.
 pub const OF_BOTH: u16 = 1_297;
-
-/// How many rows there are at most.
-pub const MAX_ROWS: usize = MAX_NODES + MAX_CERTS;
 
 /// An anchor, by the numbers of its key and its name.
 #[derive(Clone, Copy)]
@@ -43,10 +41,12 @@ pub struct Search {
     pub parents: Parents,
     /// What came into a row and was not followed yet. Nothing rests on it.
     pub queue: Queue,
-    /// What quotes or acts for another in a row, while it is worked on. Nothing rests on it.
-    pub pairs: Queue,
-    /// The same of those in roles.
-    pub roles: Queue,
+    /// How rows grew. Nothing rests on it.
+    pub growth: Growth,
+    /// The compounds that may give more to the row that is worked on. Nothing rests on it.
+    pub fresh: Queue,
+    /// The compounds that this row lacks. Nothing rests on it.
+    pub lacking: Queue,
     /// There is room for the largest question.
     ghost nodes_room: { MAX_NODES ≤ vec_capacity nodes },
     ghost anchors_room: { MAX_ANCHORS ≤ vec_capacity anchors },
@@ -74,8 +74,9 @@ impl Search {
             wanted: Vec::with_capacity(alloc, MAX_ROWS)?,
             parents: Parents::reserve(alloc)?,
             queue: Queue::reserve(alloc)?,
-            pairs: Queue::reserve(alloc)?,
-            roles: Queue::reserve(alloc)?,
+            growth: Growth::reserve(alloc)?,
+            fresh: Queue::reserve(alloc)?,
+            lacking: Queue::reserve(alloc)?,
         })
     }
 
@@ -95,7 +96,9 @@ impl Search {
         ensures none { self.new.wanted.items ≡ [] }
     {
         let count = self.nodes.len();
-        self.cells.restart(count, count + self.cited.len());
+        let rows = count + self.cited.len();
+        self.cells.restart(count, rows);
+        self.growth.restart(rows);
         self.parents.restart(&self.nodes);
     }
 
@@ -116,6 +119,7 @@ impl Search {
         self.wanted.retain(|row| (*row as usize) < count);
         self.cited.push(it).unwrap();
         self.cells.add_row();
+        self.growth.add_row();
     }
 
     // Whether the row is one of a number, and has the right side of the certificate if it has the

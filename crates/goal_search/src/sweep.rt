@@ -108,129 +108,17 @@ impl Search {
         }
     }
 
-    // Lists a number by its form, where the row has it.
-    fn list(&mut self, row: usize, number: u16)
-        requires ready { IsReady (core self.old) }
-        requires row_in { IsRow (core self.old) row }
-        requires number_in { IsNumber (core self.old) number }
-        ensures { IsFilled (core self.old) (core self.new) }
-    {
-        if !self.has(row, number) {
-            return;
-        }
-        match self.node(number) {
-            Node::Quote(_, _) | Node::For(_, _) => self.pairs.put(number),
-            Node::AsRole(_, _) => self.roles.put(number),
-            _ => {}
-        }
-    }
-
-    // Lists what the row has.
-    fn list_all(&mut self, row: usize)
-        requires ready { IsReady (core self.old) }
-        requires row_in { IsRow (core self.old) row }
-        ensures { IsFilled (core self.old) (core self.new) }
-    {
-        self.pairs.clear();
-        self.roles.clear();
-        for number in 0..self.nodes.len() {
-            self.list(row, number as u16);
-        }
-    }
-
-    // Puts a number into a row by the form of a listed one, where it can be had so.
-    fn pass_by(&mut self, row: usize, from: u16, to: u16)
-        requires ready { IsReady (core self.old) }
-        requires row_in { IsRow (core self.old) row }
-        requires to_in { IsNumber (core self.old) to }
-        ensures { IsFilled (core self.old) (core self.new) }
-    {
-        if (from as usize) < self.nodes.len() {
-            self.pass_on(row, from, to);
-        }
-    }
-
-    // Puts one that quotes or acts for another into a row, by those that are listed.
-    fn pass_pairs(&mut self, row: usize, to: u16)
-        requires ready { IsReady (core self.old) }
-        requires row_in { IsRow (core self.old) row }
-        requires to_in { IsNumber (core self.old) to }
-        ensures { IsFilled (core self.old) (core self.new) }
-    {
-        for place in 0..self.pairs.count() {
-            if self.has(row, to) {
-                return;
-            }
-            let from = self.pairs.at(place);
-            self.pass_by(row, from, to);
-        }
-    }
-
-    // Puts one in a role into a row, by those that are listed.
-    fn pass_roles(&mut self, row: usize, to: u16)
-        requires ready { IsReady (core self.old) }
-        requires row_in { IsRow (core self.old) row }
-        requires to_in { IsNumber (core self.old) to }
-        ensures { IsFilled (core self.old) (core self.new) }
-    {
-        for place in 0..self.roles.count() {
-            if self.has(row, to) {
-                return;
-            }
-            let from = self.roles.at(place);
-            self.pass_by(row, from, to);
-        }
-    }
-
-    // Puts a number into a row by the form of a listed one, where it can be had so.
-    fn pass_to(&mut self, row: usize, to: u16)
-        requires ready { IsReady (core self.old) }
-        requires row_in { IsRow (core self.old) row }
-        requires to_in { IsNumber (core self.old) to }
-        ensures { IsFilled (core self.old) (core self.new) }
-    {
-        match self.node(to) {
-            Node::Quote(_, _) | Node::For(_, _) => self.pass_pairs(row, to),
-            Node::AsRole(_, _) => self.pass_roles(row, to),
-            _ => {}
-        }
-    }
-
-    // What the listed numbers give the row of one that it lacks, through the rows of their operands.
-    fn sweep_number(&mut self, row: usize, to: u16)
-        requires ready { IsReady (core self.old) }
-        requires row_in { IsRow (core self.old) row }
-        requires to_in { IsNumber (core self.old) to }
-        ensures { IsFilled (core self.old) (core self.new) }
-    {
-        if !self.has(row, to) {
-            self.pass_to(row, to);
-            self.close(row);
-        }
-    }
-
-    // What the numbers that the row has give it.
-    fn sweep_numbers(&mut self, row: usize)
-        requires ready { IsReady (core self.old) }
-        requires row_in { IsRow (core self.old) row }
-        ensures { IsFilled (core self.old) (core self.new) }
-    {
-        self.list_all(row);
-        for number in 0..self.nodes.len() {
-            self.sweep_number(row, number as u16);
-        }
-    }
-
     // Works on one row.
     fn sweep(&mut self, row: usize)
         requires ready { IsReady (core self.old) }
         requires row_in { IsRow (core self.old) row }
         ensures { IsFilled (core self.old) (core self.new) }
     {
+        let before = self.growth.sweep(row, self.cells.count);
         self.sweep_back(row);
         self.sweep_forth(row);
         self.open_all(row);
-        self.sweep_numbers(row);
+        self.sweep_compounds(row, before);
     }
 
     // Works on each row that is wanted, until the goal is reached.

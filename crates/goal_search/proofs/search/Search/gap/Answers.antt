@@ -1,18 +1,27 @@
-use Rattle.std.proofs.Common.{ℕ, arith, below_more, slice_index, subst}
+-- The rows are looked through from the last one on.
+use Rattle.std.proofs.Common.{◌≡◌, ℕ, ◌-◌, ◌∙◌, ap, arith, below_more, length, slice_index, subst}
 use Rattle.goal_search.specs.Searching.{core, IsFinishedIn}
 use Rattle.goal_search.proofs.Refusals.{place_in, read_at, row_wanted, stands_in}
 use Rattle.goal_search.proofs.search.Search.gap.Goals as goal
 
 pub row_gap-requires-clause-row_in : goal.row_gap-requires-clause-row_in
 row_gap-requires-clause-row_in c =
-    row_wanted (core c.args.self.now) c.requires.ready c.index.result.now (stands_in c.args.self.now.wanted.items c.loop-place.place c.index.result.now (omega arith) c.index.ensures)
+    row_wanted (core c.args.self.now) c.requires.ready c.index.result.now
+    (stands_in c.args.self.now.wanted.items (c.len-count.result - 1 - c.loop-step.step) c.index.result.now (omega (arith, c.len-count.ensures, c.loop-step-test.true)) c.index.ensures)
 
-pub loop-place-preserved : goal.loop-place-preserved
-loop-place-preserved c =
-    below_more (λ (k : ℕ). IsFinishedIn (core c.args.self.now) (slice_index c.args.self.now.wanted.items k)) c.loop-place.place c.loop-place.invariant
-    (subst (λ (r : ℕ). IsFinishedIn (core c.args.self.now) r) (read_at c.args.self.now.wanted.items c.loop-place.place c.index.result.now (omega arith) c.index.ensures) c.in_default.ensures)
+pub loop-step-preserved : goal.loop-step-preserved
+loop-step-preserved c =
+    let items = c.args.self.now.wanted.items in
+    let at : c.len-count.result - 1 - c.loop-step.step ≡ length items - 1 - c.loop-step.step = omega (arith, c.len-count.ensures) in
+    below_more (λ (k : ℕ). IsFinishedIn (core c.args.self.now) (slice_index items (length items - 1 - k))) c.loop-step.step c.loop-step.invariant
+    (subst (λ (r : ℕ). IsFinishedIn (core c.args.self.now) r)
+    (read_at items (c.len-count.result - 1 - c.loop-step.step) c.index.result.now (omega (arith, c.len-count.ensures, c.loop-step-test.true)) c.index.ensures ∙ ap (slice_index items) at)
+    c.in_default.ensures)
 
 pub returns : goal.returns
 returns c = λ row w.
-    let (k, h, e) = place_in c.args.self.now.wanted.items row w in
-    subst (λ (r : ℕ). IsFinishedIn (core c.args.self.now) r) e (c.loop-place.invariant k (omega (arith, h, c.loop-place-test.false)))
+    let items = c.args.self.now.wanted.items in
+    let (k, h, e) = place_in items row w in
+    let back : length items - 1 - (length items - 1 - k) ≡ k = omega (arith, h) in
+    subst (λ (r : ℕ). IsFinishedIn (core c.args.self.now) r) (ap (slice_index items) back ∙ e)
+    (c.loop-step.invariant (length items - 1 - k) (omega (arith, h, c.len-count.ensures, c.loop-step-test.false)))

@@ -1,6 +1,0 @@
-use Rattle.goal_search.specs.Searching.{core}
-use Rattle.goal_search.proofs.Growing.{filled_then}
-use Rattle.goal_search.proofs.search.Search.sweep_numbers.Goals as goal
-
-pub loop-number-preserved : goal.loop-number-preserved
-loop-number-preserved c = filled_then (core c.args.self.now) (core c.loop-number.self) (core c.sweep_number.new.self) c.loop-number.invariant c.sweep_number.ensures
