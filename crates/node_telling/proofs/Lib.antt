@@ -1,5 +1,5 @@
 pub mod Appending
-pub mod Fronts
+pub mod ReplyFronts
 pub mod Lines
 pub mod Places
 pub mod Sums

@@ -4,7 +4,7 @@ use Rattle.taos_wire.specs.Heads.{head_of}
 use Rattle.taos_wire.specs.declared.reply_head.ReplyHead.{ReplyHead}
 use Rattle.node_telling.specs.Replies.{front_with}
 use Rattle.node_telling.specs.declared.texts.reply.ReplyFront.{ReplyFront}
-use Rattle.node_telling.proofs.Fronts.{front_said}
+use Rattle.node_telling.proofs.ReplyFronts.{front_said}
 use Rattle.node_telling.proofs.texts.reply.reply_at.Goals as goal
 
 pub returns-in-Some-clause-said : goal.returns-in-Some-clause-said
