@@ -9,8 +9,8 @@ use Rattle.frame_link.specs.Served.{CountsCause}
 use Rattle.node_file.specs.Opening.{Opening}
 use Rattle.node_journals.specs.declared.audit.AuditEnd.{AuditEnd}
 use Rattle.node_journals.specs.declared.audit.AuditEnd.TheVariants as audits
-use Rattle.taos_node.specs.declared.drill.serving.DrillEnd.{DrillEnd}
-use Rattle.taos_node.specs.declared.drill.serving.DrillEnd.TheVariants as drills
+use Rattle.taos_node.specs.declared.drills.serving.DrillEnd.{DrillEnd}
+use Rattle.taos_node.specs.declared.drills.serving.DrillEnd.TheVariants as drills
 use Rattle.taos_node.specs.Audit.{AuditCauses, AuditIsComplete}
 use Rattle.node_journals.specs.declared.audit.Form.{Form}
 use Rattle.node_journals.specs.declared.audit.Form.TheVariants as form

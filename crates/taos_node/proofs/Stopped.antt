@@ -3,7 +3,7 @@ use Rattle.std.proofs.Common.{ℕ}
 use Rattle.frame_link.specs.declared.outcome.Outcome.{Outcome}
 use Rattle.node_commands.specs.declared.check.CheckEnd.{CheckEnd}
 use Rattle.node_journals.specs.declared.audit.AuditEnd.{AuditEnd}
-use Rattle.taos_node.specs.declared.drill.serving.DrillEnd.{DrillEnd}
+use Rattle.taos_node.specs.declared.drills.serving.DrillEnd.{DrillEnd}
 use Rattle.node_commands.specs.declared.fault.FileFault.{FileFault}
 use Rattle.taos_node.specs.declared.ending.LanesEnd.{LanesEnd}
 use Rattle.node_commands.specs.declared.minting.MintEnd.{MintEnd}

@@ -22,7 +22,7 @@ use Rattle.taos_lanes.specs.Workers.{LaneShown}
 use Rattle.taos_monitor.specs.Changing.{Change, change}
 use Rattle.taos_lanes.specs.Telling.{Telling, told_by}
 use Rattle.node_journals.specs.declared.audit.AuditEnd.{AuditEnd}
-use Rattle.taos_node.specs.declared.drill.serving.DrillEnd.{DrillEnd}
+use Rattle.taos_node.specs.declared.drills.serving.DrillEnd.{DrillEnd}
 use Rattle.taos_node.specs.Audit.{WritesAudit, counts}
 use Rattle.node_journals.specs.Audit.{AreLegalAs, IsAuditOf, WasMade}
 use Rattle.taos_node.specs.Drills.{Drills}

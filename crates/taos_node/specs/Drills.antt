@@ -27,8 +27,8 @@ use Rattle.taos_monitor.specs.Changing.{Change}
 use Rattle.taos_lanes.specs.Telling.{Telling, told_by}
 use Rattle.taos_lanes.specs.Visits.{Visit}
 use Rattle.request_course.specs.Cells.{Node}
-use Rattle.taos_node.specs.declared.drill.serving.DrillEnd.{DrillEnd}
-use Rattle.taos_node.specs.declared.drill.serving.DrillEnd.TheVariants as drill
+use Rattle.taos_node.specs.declared.drills.serving.DrillEnd.{DrillEnd}
+use Rattle.taos_node.specs.declared.drills.serving.DrillEnd.TheVariants as drill
 use Rattle.taos_lanes.specs.Opened.{ServesOpening}
 use Rattle.taos_lanes.specs.Summary.{drill_line}
 use Rattle.node_commands.specs.Words.{DrillWords}

@@ -7,8 +7,8 @@ use Rattle.node_commands.specs.declared.check.CheckEnd.TheVariants as check
 use Rattle.node_commands.specs.declared.finding.Finding.TheVariants as finding
 use Rattle.node_journals.specs.declared.audit.AuditEnd.{AuditEnd}
 use Rattle.node_journals.specs.declared.audit.AuditEnd.TheVariants as audit
-use Rattle.taos_node.specs.declared.drill.serving.DrillEnd.{DrillEnd}
-use Rattle.taos_node.specs.declared.drill.serving.DrillEnd.TheVariants as drill
+use Rattle.taos_node.specs.declared.drills.serving.DrillEnd.{DrillEnd}
+use Rattle.taos_node.specs.declared.drills.serving.DrillEnd.TheVariants as drill
 use Rattle.taos_node.specs.declared.ending.Ending.{Ending}
 use Rattle.taos_node.specs.declared.ending.Ending.TheVariants as ending
 use Rattle.node_commands.specs.declared.fault.FileFault.{FileFault}

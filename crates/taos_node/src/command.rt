@@ -18,7 +18,7 @@ ghost use Rattle.taos_lanes.specs.Opened.{IsOpenedBy, IsSameNode, IsSmall};
 ghost use Rattle.node_commands.specs.Words.{Check};
 
 use crate::audit::{AuditAsked, audit_by_file};
-use crate::drill::drill_asked;
+use crate::drills::drill_asked;
 use crate::ending::{Ending, status_of};
 use crate::lanes::{LanesAsked, serve_by_file};
 use crate::note::tell;

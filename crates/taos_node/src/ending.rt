@@ -3,7 +3,7 @@
 ghost use Rattle.std.specs.Prelude.{◌≡◌};
 ghost use Rattle.taos_node.specs.Stops.{status_of};
 
-use crate::drill::serving::DrillEnd;
+use crate::drills::serving::DrillEnd;
 use crate::stop::{stop_of, stop_status};
 use frame_link::Outcome;
 use node_commands::{CheckEnd, FileFault, MintEnd, PathEnd};

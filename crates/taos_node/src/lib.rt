@@ -3,7 +3,7 @@
 
 mod audit;
 mod command;
-mod drill;
+mod drills;
 mod ending;
 mod lanes;
 mod limits;
@@ -16,7 +16,7 @@ mod stop;
 mod wallet;
 
 pub use command::taos;
-pub use drill::serving::{DrillEnd, drill};
+pub use drills::serving::{DrillEnd, drill};
 pub use ending::{Ending, LanesEnd, status_of};
 pub use frame_link::Outcome;
 pub use node_commands::{

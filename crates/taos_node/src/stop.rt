@@ -3,7 +3,7 @@
 ghost use Rattle.std.specs.Prelude.{◌≡◌};
 ghost use Rattle.taos_node.specs.Stops.{audited_stop, checked_stop, drilled_stop, file_stop, lanes_stop, minted_stop, path_stop, replay_stop, served_stop, stop_of, stop_status};
 
-use crate::drill::serving::DrillEnd;
+use crate::drills::serving::DrillEnd;
 use crate::ending::{Ending, LanesEnd};
 use frame_link::Outcome;
 use node_commands::{CheckEnd, FileFault, Finding, MintEnd, MintWord, PathEnd};

@@ -15,7 +15,7 @@ use Rattle.taos_lanes.specs.Parts.{node_in}
 use Rattle.taos_monitor.specs.Changing.{change}
 use Rattle.taos_node.specs.Drills.{AreDrillLanes, drill_shown}
 use Rattle.taos_node.proofs.DrillRuns.{DrillLane, many_streams}
-use Rattle.taos_node.proofs.drill.serving.serve_load.Goals as goal
+use Rattle.taos_node.proofs.drills.serving.serve_load.Goals as goal
 
 pub serve-requires-clause-few : goal.serve-requires-clause-few
 serve-requires-clause-few g c κs within =

@@ -1,6 +1,6 @@
 -- one lane more, of one stream more
 use Rattle.taos_node.proofs.DrillRuns.{more_lanes}
-use Rattle.taos_node.proofs.drill.serving.lanes_of.Goals as goal
+use Rattle.taos_node.proofs.drills.serving.lanes_of.Goals as goal
 
 pub loop-bytes-preserved : goal.loop-bytes-preserved
 loop-bytes-preserved c =

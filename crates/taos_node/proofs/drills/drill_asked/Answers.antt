@@ -4,7 +4,7 @@ use Rattle.std.proofs.KnownBytes.{Keeps-refl}
 use Rattle.taos_node.specs.Calls.{touched}
 use Rattle.node_commands.specs.Words.{drill_words}
 use Rattle.taos_node.proofs.Endings.{drilled}
-use Rattle.taos_node.proofs.drill.drill_asked.Goals as goal
+use Rattle.taos_node.proofs.drills.drill_asked.Goals as goal
 
 pub returns-then-asked-gt-MAX_REQUESTS : goal.returns-then-asked-gt-MAX_REQUESTS
 returns-then-asked-gt-MAX_REQUESTS g c = record { drills = λ file input used words is. absurd (omega (arith, is.4.requests.1, c.if-asked-gt-MAX_REQUESTS.true)) }

@@ -4,7 +4,7 @@ use Rattle.std.specs.Io.KnownBytes.{Appends}
 use Rattle.taos_lanes.specs.Serving.{left_by}
 use Rattle.node_commands.specs.Words.{drill_words}
 use Rattle.taos_node.proofs.DrillRuns.{came}
-use Rattle.taos_node.proofs.drill.serving.drill.Goals as goal
+use Rattle.taos_node.proofs.drills.serving.drill.Goals as goal
 
 pub returns-in-Ok-pour-clause-drills : goal.returns-in-Ok-pour-clause-drills
 returns-in-Ok-pour-clause-drills g c =

@@ -9,7 +9,7 @@ ghost use Rattle.std.specs.declared.alloc.Global.{Global};
 
 pub(crate) mod serving;
 
-use crate::drill::serving::drill;
+use crate::drills::serving::drill;
 use crate::ending::Ending;
 use frame_link::Sink;
 use node_commands::Drill;
