@@ -1,6 +1,7 @@
 -- What a file decides, and what the first lane tells.
 use Rattle.std.proofs.Common.{◌≡◌, ◌≢◌, ℕ, ◌-◌, ◌^◌, ◌<◌, Bool, true, List, [], ◌∷◌, length, map, slice_index_or, slice_set, Some, refl, sym, ap, subst, arith, inl, inr}
 use Rattle.std.specs.Prelude.{Option}
+use Rattle.std.specs.List.{AllZip}
 use Rattle.std.specs.Io.KnownBytes.{Consumes}
 use Rattle.std.proofs.lemmas.List.{length-append}
 use Rattle.frame_link.specs.declared.outcome.Outcome.{Outcome}
@@ -8,7 +9,7 @@ use Rattle.frame_link.specs.Faults.{Rose}
 use Rattle.frame_link.specs.Served.{HasCauses, IsComplete, line}
 use Rattle.taos_lanes.specs.Workers.{LaneShown}
 use Rattle.request_course.specs.Cells.{Node, Seen, alone_of}
-use Rattle.request_course.specs.Connection.{IsConnection}
+use Rattle.request_course.specs.Connection.{Connects}
 use Rattle.node_commands.specs.declared.fault.FileFault.{FileFault}
 use Rattle.node_commands.specs.declared.fault.FileFault.TheVariants as fault
 use Rattle.node_commands.specs.declared.fault.FileFault.TheVariants.{Malformed, Refused}
@@ -16,7 +17,7 @@ use Rattle.node_commands.specs.Files.{FaultHasCause, FileFails, IsRefused, Meani
 use Rattle.taos_node.specs.Deciding.{FileDecides}
 use Rattle.frame_link.specs.Streams.{Stream}
 use Rattle.taos_node.specs.Calls.{LaneUsed, touched, first_of, used_of}
-use Rattle.taos_node.specs.Command.{with_seen}
+use Rattle.taos_node.specs.Command.{HasOtherUse, LeavesDoors, with_seen}
 use Rattle.prin_text.specs.declared.lines.fault.FileFault.{FileFault as Refusal}
 use Rattle.prin_text.specs.declared.lines.fault.FileFault.TheVariants.{Line, Byte}
 use Rattle.frame_link.proofs.Complete.{left_after}
@@ -72,6 +73,17 @@ module _ {A : Type 0} (Means : A → List ℕ → Type 0) (means : Meaning A) (l
     refuses = λ bytes told none steady. inr refl;
   }
 
+-- ---- the lanes
+
+module _ {X : Type 0} where
+  same_use : (l : List (LaneShown X)) → AllZip HasOtherUse l l
+  same_use [] = tt
+  same_use (lane ∷ l) = (record { door = refl; work = refl; tally = refl }, same_use l)
+
+  -- lanes that nobody touched
+  pub no_lane : (l : List (LaneShown X)) → LeavesDoors l l
+  no_lane l = record { others = refl; all = same_use l }
+
 -- ---- the first lane
 
 module _ {L X : Type 0} (shown : L → LaneShown X) where
@@ -83,6 +95,11 @@ module _ {L X : Type 0} (shown : L → LaneShown X) where
   pub first_after : (lanes : List L) (lane : L) → 0 < length lanes → first_of (map shown (slice_set lanes 0 lane)) ≡ used_of (shown lane)
   first_after [] lane some = absurd (omega (arith, some))
   first_after (other ∷ lanes) lane some = refl
+
+  -- of which only what a connection uses has changed
+  pub leaves_doors : (lanes : List L) (d lane : L) → 0 < length lanes → HasOtherUse (shown (slice_index_or lanes 0 d)) (shown lane) → LeavesDoors (map shown lanes) (map shown (slice_set lanes 0 lane))
+  leaves_doors [] d lane some h = absurd (omega (arith, some))
+  leaves_doors (first ∷ lanes) d lane some h = record { others = refl; all = (h, (no_lane (map shown lanes)).all) }
 
   -- how it ended, by the counts of the first lane's clock
   pub causes_by : (lanes : List L) (d lane : L) → 0 < length lanes → (in0 in1 out0 out1 : Stream) (outcome : Outcome) →
@@ -100,8 +117,8 @@ module _ {L X : Type 0} (shown : L → LaneShown X) where
 -- a connection over what is touched, as the first lane tells it, with the use of the fetch that stays
 pub touches : (n : Node) (pulls used : Bool) (frames : ℕ) (file0 file1 in0 in1 out0 out1 : Stream) (lane0 lane0' lane1 lane1' : LaneUsed) (seen seen' last : Seen) (outcome : Outcome) →
     used ≡ pulls → lane0' ≡ lane0 → lane1' ≡ lane1 → seen' ≡ seen →
-    IsConnection (setting_of n (alone_of true true)) frames (with_seen pulls (touched file0 in0 out0 lane0) seen) (with_seen used (touched file1 in1 out1 lane1) last) outcome →
-    IsConnection (setting_of n (alone_of true true)) frames (with_seen pulls (touched file0 in0 out0 lane0') seen') (with_seen pulls (touched file1 in1 out1 lane1') last) outcome
+    Connects (setting_of n (alone_of true true)) frames (with_seen pulls (touched file0 in0 out0 lane0) seen) (with_seen used (touched file1 in1 out1 lane1) last) outcome →
+    Connects (setting_of n (alone_of true true)) frames (with_seen pulls (touched file0 in0 out0 lane0') seen') (with_seen pulls (touched file1 in1 out1 lane1') last) outcome
 touches n pulls used frames file0 file1 in0 in1 out0 out1 lane0 lane0' lane1 lane1' seen seen' last outcome e e0 e1 e2 c =
     rw (e0, e1, e2)
-    (subst (λ (b : Bool). IsConnection (setting_of n (alone_of true true)) frames (with_seen pulls (touched file0 in0 out0 lane0) seen) (with_seen b (touched file1 in1 out1 lane1) last) outcome) e c)
+    (subst (λ (b : Bool). Connects (setting_of n (alone_of true true)) frames (with_seen pulls (touched file0 in0 out0 lane0) seen) (with_seen b (touched file1 in1 out1 lane1) last) outcome) e c)

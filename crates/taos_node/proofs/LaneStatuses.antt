@@ -23,7 +23,7 @@ use Rattle.taos_node.specs.declared.ending.Ending.TheVariants.{Usage, File, Serv
 use Rattle.node_commands.specs.declared.fault.FileFault.{FileFault}
 use Rattle.taos_node.specs.declared.ending.LanesEnd.{LanesEnd}
 use Rattle.taos_node.specs.declared.ending.LanesEnd.TheVariants as lanes
-use Rattle.taos_node.specs.Command.{IsCommand, ServesDoors, Runs, RunsAlone}
+use Rattle.taos_node.specs.Command.{IsCommand, LeavesDoors, ServesDoors, Runs, RunsAlone}
 use Rattle.taos_node.specs.Status.{Does, EndsAlone, EndsWellFor, FileDecidesFor, HasSameCount, HasSteadyDoor, IsStatus, TellsDoors}
 use Rattle.taos_node.specs.Calls.{Touched, over}
 use Rattle.taos_node.specs.Stops.{status_of}
@@ -31,7 +31,7 @@ use Rattle.node_commands.specs.Files.{FaultHasCause, FileFails, HasFailed, IsNod
 use Rattle.taos_node.specs.Lanes.{HasNoneFailed, LanesCauses, PrintsLine, ServesLanes, served, unserved}
 use Rattle.taos_node.specs.RelayLanes.{RelaysDoors}
 use Rattle.node_commands.specs.Words.{Mean, RelayServe, Serve, ServeWords, Task}
-use Rattle.taos_node.proofs.Commands.{still}
+use Rattle.taos_node.proofs.Commands.{no_lane, still}
 use Rattle.node_commands.proofs.Meant.{node_files, relay_files}
 use Rattle.taos_node.proofs.Statuses.{apart, file_ends, is_file_status, lacked, of_command, stayed, two_commands}
 use Rattle.taos_node.proofs.Stopped.{file_status, lanes_status}
@@ -55,7 +55,7 @@ none_serves words none (inl serve) = none (Serve serve.0, serve.1)
 none_serves words none (inr serve) = none (RelayServe serve.0, serve.1)
 
 module _ {In Out : Type 0} (telling : Telling In Out) (words : List (String Global)) (before after : Touched) (lanes0 lanes1 : List (LaneShown (In × Out))) where
-  alone_runs : (e : Ending) → RunsAlone words before after e → drop 1 lanes1 ≡ drop 1 lanes0 → Runs telling words (over before lanes0) (over after lanes1) e
+  alone_runs : (e : Ending) → RunsAlone words before after e → LeavesDoors lanes0 lanes1 → Runs telling words (over before lanes0) (over after lanes1) e
   alone_runs Usage r others = (r, others)
   alone_runs ending.NoMemory r others = (r, others)
   alone_runs (File f) r others = (r, others)
@@ -72,7 +72,7 @@ module _ {In Out : Type 0} (telling : Telling In Out) (words : List (String Glob
   alone_runs (RelayLanes end) r others = absurd r
 
   -- a command that serves no lanes
-  pub alone : (e : Ending) → RunsAlone words before after e → IsStatus words before after (status_of e) → drop 1 lanes1 ≡ drop 1 lanes0 → (ServesDoors words → ⊥) → Does telling words (over before lanes0) (over after lanes1) e
+  pub alone : (e : Ending) → RunsAlone words before after e → IsStatus words before after (status_of e) → LeavesDoors lanes0 lanes1 → (ServesDoors words → ⊥) → Does telling words (over before lanes0) (over after lanes1) e
   alone e r status others none = record {
     runs = alone_runs e r others;
     status = status;
@@ -81,7 +81,7 @@ module _ {In Out : Type 0} (telling : Telling In Out) (words : List (String Glob
 
 -- the same, by what came of the command
 pub ends_alone : {In Out : Type 0} (telling : Telling In Out) (words : List (String Global)) (task : Task) {before after : Touched} (lanes0 lanes1 : List (LaneShown (In × Out))) (e : Ending) → Mean words task → (IsLaneTask task → ⊥) →
-    EndsAlone task before after e → drop 1 lanes1 ≡ drop 1 lanes0 → Does telling words (over before lanes0) (over after lanes1) e
+    EndsAlone task before after e → LeavesDoors lanes0 lanes1 → Does telling words (over before lanes0) (over after lanes1) e
 ends_alone telling words task {before} {after} lanes0 lanes1 e is apart ends others =
     let did = ends words is in
     alone telling words before after lanes0 lanes1 e did.0 did.1 others (other_words words task is apart)
@@ -102,7 +102,7 @@ module _ {In Out : Type 0} (telling : Telling In Out) (words : List (String Glob
   -- memory was refused before the words were read
   pub unread_does : RunsAlone words before after ending.NoMemory → IsStatus words before after 6 → Does telling words (over before l) (over after l) ending.NoMemory
   unread_does r status = record {
-    runs = (r, refl);
+    runs = (r, no_lane l);
     status = status;
     tells = record { caused = λ nine. absurd (omega (arith, nine)); told = λ serve other. same_doors l; well = λ serve bytes o told is sf so steady. inr refl; relays_well = λ serve bytes r told is sf so steady. inr refl };
   }
@@ -111,7 +111,7 @@ module _ {In Out : Type 0} (telling : Telling In Out) (words : List (String Glob
   pub file_does : (s : ServeWords) (f : FileFault) → Mean words (Serve s) → RunsAlone words before after (File f) → IsStatus words before after (file_status f) → FileFails node_means before.file after.file f →
       FaultHasCause before.file after.file f → Does telling words (over before l) (over after l) (File f)
   file_does s f serve r status bad cause = record {
-    runs = (r, refl);
+    runs = (r, no_lane l);
     status = status;
     tells = record {
       caused = λ nine. absurd (apart is_file_status (file_ends f) refl nine);
@@ -125,7 +125,7 @@ module _ {In Out : Type 0} (telling : Telling In Out) (words : List (String Glob
   pub relay_file_does : (limits : Limits) (f : FileFault) → Mean words (RelayServe limits) → RunsAlone words before after (File f) → IsStatus words before after (file_status f) → FileFails relay_means before.file after.file f →
       FaultHasCause before.file after.file f → Does telling words (over before l) (over after l) (File f)
   relay_file_does limits f relay r status bad cause = record {
-    runs = (r, refl);
+    runs = (r, no_lane l);
     status = status;
     tells = record {
       caused = λ nine. absurd (apart is_file_status (file_ends f) refl nine);
@@ -272,13 +272,3 @@ module _ {In Out : Type 0} (telling : Telling In Out) (limits : Limits) (xs ys :
   relay_doors_tell r words before after end relay s h =
       let run = λ (x y : LaneShown (In × Out)) (q : RelayRun limits.frames) (is : IsRelayRunOf telling s.table limits x y q). is.cause in
       line_tells _ _ run xs ys s.serves.runs s.serves.each s.total s.serves.counted.lanes s.serves.counted.first_failed words before after _ end s.prints h
-
--- ---- lanes, as they are shown
-
--- what no lane but the first is touched by leaves the others as they are shown
-pub shown_others : {A B : Type 0} (f : A → B) (xs ys : List A) → drop 1 xs ≡ drop 1 ys → drop 1 (map f xs) ≡ drop 1 (map f ys)
-shown_others {A} {B} f xs ys same = behind xs ∙ (ap (map f) same ∙ sym (behind ys))
-  where
-    behind : (l : List A) → drop 1 (map f l) ≡ map f (drop 1 l)
-    behind [] = refl
-    behind (x ∷ l) = refl

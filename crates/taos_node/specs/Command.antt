@@ -1,5 +1,6 @@
 -- The top call: the words, the file, and then the work.
-use Rattle.std.specs.Prelude.{◌≡◌, ◌⊎◌, ℕ, Bool, true, false, List, drop, map, Option, None, String}
+use Rattle.std.specs.Prelude.{◌≡◌, ◌⊎◌, ℕ, Bool, true, false, List, drop, map, All, Option, None, String}
+use Rattle.std.specs.List.{AllZip}
 use Rattle.std.specs.Io.KnownBytes.{Keeps}
 use Rattle.std.specs.declared.alloc.Global.{Global}
 use Rattle.frame_link.specs.declared.outcome.Outcome.{Outcome}
@@ -47,7 +48,7 @@ use Rattle.prin_text.specs.Labels.{Labels}
 use Rattle.relay_core.specs.declared.resealing.RelayTable.{RelayTable}
 use Rattle.relay_core.specs.Serving.{Answers, GivesUp}
 use Rattle.request_course.specs.Cells.{Node, Seen, alone_of}
-use Rattle.request_course.specs.Connection.{IsConnection}
+use Rattle.request_course.specs.Connection.{Connects}
 use Rattle.request_course.specs.World.{World, fetch_use, setting_of}
 use Rattle.taos_lanes.specs.declared.opened.OpenNode.{OpenNode}
 use Rattle.taos_lanes.specs.Opened.{IsNodeOf, IsOpenedBy, node_by, nothing_seen, seen_by}
@@ -124,14 +125,14 @@ pub record LeavesRest (before after : Touched) : Type 0 where
 
 -- A node of the opening serves the connection, of at most so many frames, from empty journals on, with
 -- certificates that it fetches or without. The journals at the end are those of this connection alone:
--- all their entries are its own.
+-- all their entries are its own. What nothing failed for was answered wholly, to its end.
 pub record ServesConnection (o : Opening) (pulls : Bool) (frames : ℕ) (before after : Touched)
     (outcome : Outcome) : Type 0 where
   pub node : Node
   pub is_node : IsNodeOf o node
   -- the journals at the end, whose entries are all its own
   pub seen : Seen
-  pub connection : IsConnection (setting_of node (alone_of true true)) frames
+  pub connection : Connects (setting_of node (alone_of true true)) frames
       (with_seen pulls before nothing_seen) (with_seen pulls after seen) outcome
 
 -- So the node serves the first lane's connection, of whatever opening it is and whatever file there
@@ -156,7 +157,7 @@ pub record Audits (form : Form) (o : Opening) (frames : ℕ) (before after : Tou
   pub is_node : IsNodeOf o node
   pub seen : Seen
   pub outcome : Outcome
-  pub connection : IsConnection (setting_of node (alone_of true true)) frames
+  pub connection : Connects (setting_of node (alone_of true true)) frames
       (unwritten before nothing_seen) (unwritten after seen) outcome
   pub text : List ℕ
   pub is_text : IsAuditOf form o seen.journals text
@@ -282,13 +283,29 @@ RunsAlone words before after (Replayed end) = Mean words Replay × JudgesJournal
 RunsAlone words before after (Lanes end) = ⊥
 RunsAlone words before after (RelayLanes end) = ⊥
 
+module _ {X : Type 0} where
+  -- a lane is as before, but for what a connection of it uses
+  pub record HasOtherUse (before after : LaneShown X) : Type 0 where
+    pub door : after.door ≡ before.door
+    pub work : after.work ≡ before.work
+    pub tally : after.tally ≡ before.tally
+
+  -- no other lane than the first was touched, and of that only what a connection of it uses
+  pub record LeavesDoors (before after : List (LaneShown X)) : Type 0 where
+    pub others : drop 1 after ≡ drop 1 before
+    pub all : AllZip HasOtherUse before after
+
+  -- no lane has work in its place
+  abbrev pub AreIdle : List (LaneShown X) → Type 0
+  AreIdle lanes = All (λ lane. lane.work ≡ None) lanes
+
 module _ {In Out : Type 0} (telling : Telling In Out) where
   -- What is done, by how it ends: the lanes of a node of the file's opening, or of a relay of the file,
   -- serve their doors, and the line of what they counted is written; every other ending touches no
-  -- other lane than the first.
+  -- lane but what a connection of the first uses.
   abbrev pub Runs : List (String Global) → (before after : Call (In × Out)) → Ending → Type 0
   Runs words before after (Lanes end) =
-      Keeps before.streams.input.told after.streams.input.told
+      Keeps before.streams.input.told after.streams.input.told × AreIdle after.lanes
       × ((s : ServeWords) × Mean words (Serve s)
       × ((o : Opening) × OpensNode before.streams.file after.streams.file o
       × ServesLanes telling o s.pulls s.limits (lanes_in before after) (output_in before after) end))
@@ -298,7 +315,7 @@ module _ {In Out : Type 0} (telling : Telling In Out) where
       × ((r : RelayFile) × OpensRelay before.streams.file after.streams.file r
       × RelaysDoors telling r limits (lanes_in before after) (output_in before after) end))
   Runs words before after other =
-      RunsAlone words before.streams after.streams other × (drop 1 after.lanes ≡ drop 1 before.lanes)
+      RunsAlone words before.streams after.streams other × LeavesDoors before.lanes after.lanes
 
 -- How it ended, with what was done, where connections are told by these: the status and the note tell
 -- that ending.

@@ -1,6 +1,6 @@
 //! The command that serves a connection and prints the journals.
 
-ghost use Rattle.std.specs.Prelude.{◌≡◌, ◌<◌, ◌≤◌, None, length};
+ghost use Rattle.std.specs.Prelude.{◌≡◌, ◌<◌, ◌≤◌, None, length, map};
 ghost use Rattle.std.specs.declared.alloc.Global.{Global};
 ghost use Rattle.frame_link.specs.Streams.{stream};
 ghost use Rattle.node_file.specs.Opening.{Opening as Meaning};
@@ -9,7 +9,7 @@ ghost use Rattle.shard_core.specs.Alone.{plans_in};
 ghost use Rattle.taos_monitor.specs.Planned.{ArePlanned};
 ghost use Rattle.taos_node.specs.Audit.{EndsAuditWhole, HasAuditCauses};
 ghost use Rattle.taos_node.specs.Calls.{called_by, first_line};
-ghost use Rattle.taos_node.specs.Command.{AuditsFirst, LeavesBy};
+ghost use Rattle.taos_node.specs.Command.{AuditsFirst, LeavesBy, LeavesDoors};
 ghost use Rattle.taos_node.specs.Status.{AuditsAsked};
 ghost use Rattle.taos_lanes.specs.Opened.{IsOpenedBy, IsSmall};
 
@@ -69,6 +69,7 @@ fn audit<W: Wait + Sync, I: Source, O: Sink, L: Worker>(
     ensures complete { let at = first_line I.shown O.shown L.shown in
         EndsAuditWhole asked.frames (at input.old output.old lanes.old)
         (at input.new output.new lanes.new) result }
+    ensures left { LeavesDoors (map L.shown lanes.old) (map L.shown lanes.new) }
     ensures untouched { LeavesBy L.door lanes.old lanes.new }
 {
     let (mut node, mut bench) = opened;
@@ -100,6 +101,7 @@ pub(crate) fn audit_by_file<W: Wait + Sync, F: Source, I: Source, O: Sink, L: Wo
     ensures audits { let at = called_by F.shown I.shown O.shown L.shown in
         AuditsAsked asked (at file.old input.old output.old lanes.old)
         (at file.new input.new output.new lanes.new) result }
+    ensures left { LeavesDoors (map L.shown lanes.old) (map L.shown lanes.new) }
     ensures untouched { LeavesBy L.door lanes.old lanes.new }
 {
     match node_file_of(alloc, file, 0) {

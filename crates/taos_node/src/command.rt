@@ -1,6 +1,6 @@
 //! The top call: the words, the file, and then the work.
 
-ghost use Rattle.std.specs.Prelude.{◌≡◌, ◌⊎◌, ◌<◌, ◌≤◌, String, length, IfOk, None};
+ghost use Rattle.std.specs.Prelude.{◌≡◌, ◌⊎◌, ◌<◌, ◌≤◌, String, length, map, IfOk, None};
 ghost use Rattle.std.specs.declared.alloc.Global.{Global};
 ghost use Rattle.agent_core.specs.declared.limits.TheConstants.{MAX_SHARDS};
 ghost use Rattle.shard_core.specs.Alone.{plans_in};
@@ -11,7 +11,7 @@ ghost use Rattle.taos_monitor.specs.Changing.{change_of};
 ghost use Rattle.taos_lanes.specs.Telling.{told_by};
 ghost use Rattle.taos_lanes.specs.declared.serving.TheConstants.{MAX_LANES};
 ghost use Rattle.taos_node.specs.Calls.{call_over, called_by, clock_count, first_line, touched};
-ghost use Rattle.taos_node.specs.Command.{Ends, LeavesBy, LeavesLanes, ServesDoors, ServesFirst};
+ghost use Rattle.taos_node.specs.Command.{Ends, LeavesBy, LeavesDoors, LeavesLanes, ServesDoors, ServesFirst};
 ghost use Rattle.taos_node.specs.Status.{Does, EndsWithoutLanes, TellsDoors, TellsStatus};
 ghost use Rattle.node_commands.specs.Files.{FileHasCause, NodeFileGives};
 ghost use Rattle.taos_lanes.specs.Opened.{IsOpenedBy, IsSameNode, IsSmall};
@@ -97,6 +97,7 @@ pub(crate) fn serve_first<W: Wait + Sync, I: Source, O: Sink, L: Worker>(
     ensures complete { let at = first_line I.shown O.shown L.shown in
         IsComplete clock_count asked.frames (at input.old output.old lanes.old)
         (at input.new output.new lanes.new) result }
+    ensures left { LeavesDoors (map L.shown lanes.old) (map L.shown lanes.new) }
     ensures untouched { LeavesBy L.door lanes.old lanes.new }
 {
     let mut kept = OpenedCerts::new(asked.alloc, &node.keys.relay_key);

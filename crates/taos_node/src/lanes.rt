@@ -1,6 +1,6 @@
 //! The command that serves the lanes of a node.
 
-ghost use Rattle.std.specs.Prelude.{◌<◌, ◌≤◌, IfOk, length, map};
+ghost use Rattle.std.specs.Prelude.{◌≡◌, ◌<◌, ◌≤◌, All, IfOk, None, length, map};
 ghost use Rattle.std.specs.declared.alloc.Global.{Global};
 ghost use Rattle.taos_lanes.specs.Parts.{ArePartsNew, node_in};
 ghost use Rattle.taos_lanes.specs.Serving.{left_by};
@@ -88,6 +88,7 @@ fn serve_parts<W: Threads + Wait + Sync, O: Sink, L: Worker + Send>(
     requires new { ArePartsNew parts }
     ensures serves { ServesParts (told_by L.In.shown L.Out.shown) parts asked
         (change_of (map L.shown) lanes) (change_of O.shown output) result }
+    ensures idle { All (λ lane. (L.shown lane).work ≡ None) lanes.new }
     ensures cause { LanesCauses (O.shown output.old).faults (O.shown output.new).faults result }
 {
     match serve(

@@ -61,7 +61,7 @@ write_text-requires-clause-cites g c =
     let same = c.serve_first-outcome.ensures.same in
     let file = g.I.Source.shown c.args.input.now in
     let did = c.serve_first-outcome.ensures.connection file file o opened in
-    let w = c.what_a_node_left_is_writable.ensures.writable did.0.node (few_commons o c.args.opened.0 new opened same c.requires.small did.0.node did.0.is_node) did.0.seen.journals (alone did.0.connection refl refl) in
+    let w = c.what_a_node_left_is_writable.ensures.writable did.0.node (few_commons o c.args.opened.0 new opened same c.requires.small did.0.node did.0.is_node) did.0.seen.journals (alone did.0.connection.connection refl refl) in
     all_cite_few o c.args.opened.0 new opened same c.requires.small (subst (λ (s : Seen). AreWritable s.journals) did.1 w)
 
 pub write_text-requires-clause-ops : goal.write_text-requires-clause-ops
@@ -71,7 +71,7 @@ write_text-requires-clause-ops g c =
     let same = c.serve_first-outcome.ensures.same in
     let file = g.I.Source.shown c.args.input.now in
     let did = c.serve_first-outcome.ensures.connection file file o opened in
-    let w = c.what_a_node_left_is_writable.ensures.writable did.0.node (few_commons o c.args.opened.0 new opened same c.requires.small did.0.node did.0.is_node) did.0.seen.journals (alone did.0.connection refl refl) in
+    let w = c.what_a_node_left_is_writable.ensures.writable did.0.node (few_commons o c.args.opened.0 new opened same c.requires.small did.0.node did.0.is_node) did.0.seen.journals (alone did.0.connection.connection refl refl) in
     all_ops_fit o c.args.opened.0 new opened same c.requires.small (subst (λ (s : Seen). AreWritable s.journals) did.1 w)
 
 pub returns-clause-audits : goal.returns-clause-audits
@@ -93,7 +93,7 @@ returns-clause-audits g c = λ o file0 file1 opened.
           let same = c.serve_first-outcome.ensures.same in
           let small = c.requires.small in
           let J = did.0.seen.journals in
-          let served : HasServed did.0.node J = alone did.0.connection refl refl in
+          let served : HasServed did.0.node J = alone did.0.connection.connection refl refl in
           let lists : All HasFittingList did.0.node.objects = subst (λ (n : Node). All HasFittingList n.objects) (sym did.2) small.lists in
           let few = few_commons o old node opened same small did.0.node did.0.is_node in
           let asks : AreAsksWithin (seen_by node).journals = subst (λ (s : Seen). AreAsksWithin s.journals) did.1 (c.what_a_node_left_is_writable.ensures.asks did.0.node few lists J served) in

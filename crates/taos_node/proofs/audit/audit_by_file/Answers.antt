@@ -9,6 +9,7 @@ use Rattle.taos_lanes.specs.Opened.{IsOpenedBy}
 use Rattle.node_journals.specs.declared.audit.Form.{Form}
 use Rattle.node_journals.specs.declared.audit.Form.TheVariants as form
 use Rattle.node_commands.specs.declared.fault.FileFault.{FileFault}
+use Rattle.taos_node.proofs.Commands.{no_lane}
 use Rattle.taos_node.proofs.Endings.{audited}
 use Rattle.taos_node.proofs.Statuses.{refuses}
 use Rattle.taos_node.proofs.audit.audit_by_file.Goals as goal
@@ -41,3 +42,6 @@ returns-in-Err-clause-audits g c =
     let file1 = g.F.Source.shown c.node_file_of.new.file in
     refuses (audit_task c.args.asked.form c.args.asked.frames) file0 file1 (g.I.Source.shown c.args.input.now) (g.O.Sink.shown c.args.output.now) c.in-Err.fault
     (fails c.args.asked.form c.args.asked.frames file0 file1 c.in-Err.fault c.in-Err.ensures.gives) c.in-Err.ensures.cause (first_of (map g.L.Worker.shown c.args.lanes.now))
+
+pub returns-in-Err-clause-left : goal.returns-in-Err-clause-left
+returns-in-Err-clause-left g c = no_lane (map g.L.Worker.shown c.args.lanes.now)

@@ -8,7 +8,7 @@ use Rattle.request_course.specs.World.{Setting}
 use Rattle.object_core.specs.OneOwner.{seen_on, own_on}
 use Rattle.taos_node.specs.Calls.{first_of, used_of}
 use Rattle.taos_lanes.specs.Opened.{node_by, nothing_seen, seen_by}
-use Rattle.taos_node.proofs.Commands.{touches, first_is, first_after, causes_by, complete_by}
+use Rattle.taos_node.proofs.Commands.{touches, first_is, first_after, causes_by, complete_by, leaves_doors}
 use Rattle.taos_node.proofs.command.serve_first.Goals as goal
 
 pub returns-clause-connection : goal.returns-clause-connection
@@ -33,7 +33,7 @@ returns-clause-connection g c = λ file0 file1 o opened.
             (used_of (shown lane)) (first_of (map shown lanes)) (used_of (shown c.serve.new.self)) _
             (seen_by node) nothing_seen last c.serve.result c.serve.ensures.connection.1.connection.fetched.0
             (first_is shown lanes other some) (first_after shown lanes _ some) (sym opened.unseen)
-            c.serve.ensures.connection.1.connection;
+            c.serve.ensures.connection.1;
       },
       refl,
       refl,
@@ -57,6 +57,11 @@ returns-clause-same g c =
       objects = ap (λ (x : Setting). x.node.objects) stays;
       none_taken = c.serve.ensures.free.none_taken;
     }
+
+pub returns-clause-left : goal.returns-clause-left
+returns-clause-left g c =
+    let rest = c.serve.ensures.rest in
+    leaves_doors g.L.Worker.shown c.args.lanes.now c.index-lanes-0.result _ c.requires.some (record { door = rest.door; work = rest.work; tally = rest.tally })
 
 pub returns-clause-untouched : goal.returns-clause-untouched
 returns-clause-untouched g c = record {
