@@ -1,5 +1,5 @@
 -- What the status tells of the lanes' doors, and of the command that serves lanes.
-use Rattle.std.proofs.Common.{◌≡◌, ◌≢◌, ◌⊎◌, ℕ, ◌+◌, ◌<◌, ◌≤◌, ◌-◌, ◌^◌, Bool, true, false, List, [], ◌∷◌, length, map, drop, Option, refl, sym, ap, ◌∙◌, subst, arith, inl, inr, cond}
+use Rattle.std.proofs.Common.{◌≡◌, ◌≢◌, ◌⊎◌, ℕ, ◌+◌, ◌<◌, ◌≤◌, ◌-◌, ◌^◌, Bool, true, false, List, [], ◌∷◌, length, Option, refl, sym, ap, ◌∙◌, subst, arith, inl, inr, cond}
 use Rattle.std.specs.Prelude.{String, not, ◌==◌, ◌||◌}
 use Rattle.std.specs.List.{AllZip, position_or_len}
 use Rattle.std.specs.declared.alloc.Global.{Global}
@@ -16,7 +16,6 @@ use Rattle.taos_lanes.specs.Serving.{IsRunOf}
 use Rattle.taos_monitor.specs.Changing.{change}
 use Rattle.taos_lanes.specs.Telling.{Telling}
 use Rattle.taos_lanes.specs.Working.{HasDoorCause}
-use Rattle.node_commands.specs.declared.check.CheckEnd.TheVariants as ends
 use Rattle.taos_node.specs.declared.ending.Ending.{Ending}
 use Rattle.taos_node.specs.declared.ending.Ending.TheVariants as ending
 use Rattle.taos_node.specs.declared.ending.Ending.TheVariants.{Usage, File, Served, Checked, Relayed, Minted, Lanes, RelayLanes, Audited, Drilled, Passed, Walleted, Replayed}

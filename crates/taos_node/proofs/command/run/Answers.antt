@@ -1,5 +1,5 @@
 -- What the words and the file mean, and what came of the connection.
-use Rattle.std.proofs.Common.{inl, inr, map, refl}
+use Rattle.std.proofs.Common.{inl, inr, map}
 use Rattle.std.proofs.KnownBytes.{Keeps-refl}
 use Rattle.taos_lanes.specs.Telling.{told_by}
 use Rattle.taos_node.specs.declared.ending.Ending.TheVariants.{Usage, Served}

@@ -26,7 +26,7 @@ returns-in-Ok g c = record {
       let gives = c.in-Ok.ensures.gives in
       let did = c.serve_parts.ensures.serves gives.0 gives.2 in
       record {
-        runs = (Keeps-refl input.told, (All-map (λ (lane : LaneShown _). lane.work ≡ None) f c.serve_parts.new.lanes c.serve_parts.ensures.idle, (asked, is, (gives.0, gives.1, did))));
+        runs = (Keeps-refl input.told, All-map (λ (lane : LaneShown _). lane.work ≡ None) f c.serve_parts.new.lanes c.serve_parts.ensures.idle, (asked, is, (gives.0, gives.1, did)));
         status = lanes_tell before after words (Serve asked) c.serve_parts.result is tt (decided_opened IsNodeFile node_means node_files before.file after.file gives.0 (lanes_status c.serve_parts.result) gives.1)
             (inl (asked, is)) c.in-Ok.ensures.cause refl c.serve_parts.ensures.cause;
         tells = doors_tell (told_by g.L.In.Source.shown g.L.Out.Sink.shown) asked (map f c.args.lanes.now) (map f c.serve_parts.new.lanes) gives.0 words before after c.serve_parts.result is did c.serve_parts.ensures.cause;
