@@ -1,6 +1,6 @@
 //! Tests of threads: of cells that threads share; of shards and objects at which two threads have a seat each, and what
 //! one of them does while the other is in the middle of something; of two lanes of a node, or of a relay, each of which
-//! gets its next frame only once the other has answered, or whose relay answers only then; and of the order in which one request steps shards and gives back
+//! gets its next frame only once the other has answered; and of the order in which one request steps shards and gives back
 //! its object.
 #![tactic(auto)]
 
@@ -8,8 +8,6 @@
 mod cells;
 #[cfg(test)]
 mod large;
-#[cfg(test)]
-mod linking;
 #[cfg(test)]
 mod logged;
 #[cfg(test)]

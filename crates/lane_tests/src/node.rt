@@ -61,16 +61,6 @@ pub(crate) fn frame_of(alloc: Global, payload: &[u8]) -> Result<MemSource, Alloc
 
 /// A frame in which the channel reads the object.
 pub(crate) fn read_by(alloc: Global, channel: u32, seq: u64) -> Result<MemSource, AllocError> {
-    read_with(alloc, channel, seq, Vec::new(alloc))
-}
-
-/// A frame in which the channel reads the object, and presents these.
-pub(crate) fn read_with(
-    alloc: Global,
-    channel: u32,
-    seq: u64,
-    certs: Vec<Vec<u8>>,
-) -> Result<MemSource, AllocError> {
     let mut payload = Vec::new(alloc);
     let asked = Request {
         channel,
@@ -78,7 +68,7 @@ pub(crate) fn read_with(
         quoted: None,
         object: 5,
         op: Arc::new(alloc, Op::Read)?,
-        certs,
+        certs: Vec::new(alloc),
     };
     write_request(&mut payload, &KEY, &asked)?;
     frame_of(alloc, &payload)

@@ -32,8 +32,8 @@ pub(crate) struct Paced {
     other: Count,
 }
 
-/// Whether so many were answered at one of the looks.
-pub(crate) fn has_answered(lane: &AtomicU64, count: u64) -> bool {
+// Whether so many were answered at one of the looks.
+fn has_answered(lane: &AtomicU64, count: u64) -> bool {
     for _ in 0..LOOKS {
         if lane.load(Ordering::SeqCst) >= count {
             return true;

@@ -1,8 +1,7 @@
-use crate::linking::Waiting;
-use crate::node::{frame_of, parts, read_by, read_with};
+use crate::node::{frame_of, parts, read_by};
 use crate::pacing::{Awaiting, Count, Paced};
 use cred_pull::MemFetch;
-use frame_link::{Limits, MemClock, MemDoor, MemSink, MemSource, NoRelay, RelayLink};
+use frame_link::{Limits, MemClock, MemDoor, MemSink, MemSource, NoRelay};
 use keyed_seal::KeyTable;
 use relay_core::RelayTable;
 use std::alloc::{AllocError, Global};
@@ -12,10 +11,7 @@ use std::test::Fail;
 use std::thread::Threads;
 use taos_lanes::{Lane, serve, serve_relays};
 
-type Paces<R> = Lane<MemClock, R, MemDoor<Paced, MemSink>, MemFetch>;
-
-// Where a reply's status stands in its frame.
-const STATUS: usize = 17;
+type Paces = Lane<MemClock, NoRelay, MemDoor<Paced, MemSink>, MemFetch>;
 
 const LIMITS: Limits = Limits {
     connections: 1,
@@ -27,36 +23,21 @@ fn count(alloc: Global) -> Result<Count, AllocError> {
 }
 
 // A lane of one connection, which gives these frames.
-fn lane_by<R: RelayLink>(
-    alloc: Global,
-    relay: R,
-    later: Vec<Awaiting>,
-    own: &Count,
-    other: &Count,
-) -> Result<Paces<R>, Fail> {
+fn lane(alloc: Global, later: Vec<Awaiting>, own: &Count, other: &Count) -> Result<Paces, Fail> {
     let nothing = MemSource::new(Vec::new(alloc), Vec::new(alloc), Vec::new(alloc));
     let input = Paced::new(nothing, later, Arc::try_clone(own)?, Arc::try_clone(other)?);
     let output = MemSink::new(alloc, 1000, Vec::new(alloc))?;
     let door = MemDoor::new(alloc, vec![in alloc; (input, output)]?, Vec::new(alloc))?;
     let clock = MemClock::new(vec![in alloc; 1000]?, Vec::new(alloc));
     let fetch = MemFetch::new(Vec::new(alloc), Vec::new(alloc));
-    Ok(Lane::of(clock, relay, door, fetch))
+    Ok(Lane::of(clock, NoRelay::new(), door, fetch))
 }
 
-fn lane(
-    alloc: Global,
-    later: Vec<Awaiting>,
-    own: &Count,
-    other: &Count,
-) -> Result<Paces<NoRelay>, Fail> {
-    lane_by(alloc, NoRelay::new(), later, own, other)
-}
-
-// What was written to the lane's connection.
-fn written<R: RelayLink>(lane: &Paces<R>) -> &[u8] {
+// How many bytes were written to the lane's connection.
+fn written(lane: &Paces) -> usize {
     match lane.door.kept() {
-        [(_, output)] => output.written(),
-        _ => &[],
+        [(_, output)] => output.written().len(),
+        _ => 0,
     }
 }
 
@@ -98,37 +79,6 @@ fn lanes_that_pull_wait_for_each_other(rt: HostRuntime) -> Result<(), Fail> {
     Ok(())
 }
 
-// The first lane's request waits for its relay, which answers once the second lane has answered its
-// own. Gives the first reply's status, and how often its relay was asked and failed.
-fn told_by_a_relay<W: Threads + Wait + Sync>(
-    rt: &W,
-    alloc: Global,
-) -> Result<(Option<u8>, u64, u64), Fail> {
-    let (one, two) = (count(alloc)?, count(alloc)?);
-    // Of the kind that goes to a relay.
-    let shown = vec![in alloc; vec![in alloc; 1; 100]?]?;
-    let mine = vec![in alloc; (0, read_with(alloc, 2, 1, shown)?)]?;
-    let yours = vec![in alloc; (0, read_by(alloc, 3, 1)?)]?;
-    let (first, second) = (
-        Waiting::new(Arc::try_clone(&two)?),
-        Waiting::new(Arc::try_clone(&one)?),
-    );
-    let mut lanes = [
-        lane_by(alloc, first, mine, &one, &two)?,
-        lane_by(alloc, second, yours, &two, &one)?,
-    ];
-    serve(rt, alloc, parts(alloc)?, &mut lanes, LIMITS, 64, false)?;
-    let status = written(&lanes[0]).get(STATUS).copied();
-    Ok((status, lanes[0].relay.calls, lanes[0].relay.faults))
-}
-
-// A node that holds a lock around each answer asks its relay while the other lane waits: the link fails.
-#[test]
-fn a_lane_answers_while_another_waits_for_its_relay(rt: HostRuntime) -> Result<(), Fail> {
-    assert_eq!(rt; told_by_a_relay(&rt, rt.alloc())?, (Some(6), 1, 0));
-    Ok(())
-}
-
 // The same of a relay's lanes, whose frames are no questions.
 #[test]
 fn lanes_of_a_relay_wait_for_each_other(rt: HostRuntime) -> Result<(), Fail> {
@@ -146,7 +96,6 @@ fn lanes_of_a_relay_wait_for_each_other(rt: HostRuntime) -> Result<(), Fail> {
     };
     let total = serve_relays(&rt, alloc, &table, &mut lanes, LIMITS);
     assert_eq!(rt; (total.served, total.broken), (2, 0));
-    let lengths = (written(&lanes[0]).len(), written(&lanes[1]).len());
-    assert_eq!(rt; lengths, (12, 12));
+    assert_eq!(rt; (written(&lanes[0]), written(&lanes[1])), (12, 12));
     Ok(())
 }
